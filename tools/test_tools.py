@@ -1,5 +1,5 @@
 #!/usr/bin/env python3
-"""Tests of tools/to_geojson.py and tools/picture.py, beside the built program: IRTREE names it, or ./irtree-build has built it.
+"""Tests of tools/to_geojson.py, picture.py and store_check.py, beside the built program: IRTREE names it, or ./irtree-build has built it.
 
 usage: [IRTREE=PATH] python3 tools/test_tools.py
 """
@@ -405,6 +405,19 @@ class Pictures(WithStore):
                                 ("--top 0 0 1 500 1 a A*2", "a word comes twice"), ("--group 0 0 a A", "a word comes twice"),
                                 ("--nearest nan 0 1", "isn't a number"), ("--nearest inf 0 1", "isn't a number")]:
             self.refuses(tool("picture", self.store, out, *options.split()), reason, out)
+
+
+class Checks(unittest.TestCase):
+    """The second opinion on whether a store is whole, beside the program's."""
+
+    def test_both_have_one_opinion_on_changed_bytes(self):
+        with tempfile.TemporaryDirectory() as folder:
+            store = f"{folder}/small.store"
+            asked(store, [f"add k{i} {i}.5 {i} café {'bar' if i % 3 else 'pub'} word{i}" for i in range(40)] + [f"remove k{i}" for i in range(9)])
+            self.assertTrue(tool("store_check", store).stdout.startswith(b"whole\n"))
+            done = tool("store_check", "--against", PROGRAM, store, "997")
+            self.assertEqual((done.returncode, done.stderr), (0, b""), done.stdout)
+            self.assertTrue(done.stdout.endswith(b" 0 on which the two disagree\n"), done.stdout)
 
 
 if __name__ == "__main__":

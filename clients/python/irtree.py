@@ -312,6 +312,14 @@ class Loaded:
     skipped: Tuple[Skip, ...]
 
 
+@dataclass(frozen=True)
+class Broken:
+    """What a check found: a page of a store, and the number of a rule of the format that it breaks."""
+
+    page: int
+    rule: int
+
+
 class Expr:
     """A filter: `Word("a") & ~(Word("b") | Word("c"))`. It can only be made of words, so no text can change its form."""
 
@@ -1130,6 +1138,22 @@ def load(store: PathName, source: Union[PathName, bytes], *, batch: Optional[int
     if run.returncode != 0 or not is_whole:
         raise LoadEnded(run.returncode, *_end_lines(run.stderr), loaded)
     return loaded
+
+
+def verify(store: PathName, *, cache: Optional[int] = None, program: Optional[PathName] = None) -> Optional[Broken]:
+    """Runs `irtree STORE verify`: `None` if the store is whole, and otherwise a page that breaks a rule.
+
+    Raises `Ended` if the store can't be opened, or the check ends early. No other process, and no `Store`, may have the store.
+    """
+    words = [find_program(program), _store_word(store), "verify", *_options(cache=cache)]
+    run = subprocess.run(words, stdin=subprocess.DEVNULL, capture_output=True, restore_signals=False)
+    printed = run.stdout.decode("utf-8", "replace")
+    if run.returncode == 0 and printed == "whole\n":
+        return None
+    broken = re.fullmatch(r"broken (\d+) (\d+)\n", printed)
+    if run.returncode == 7 and broken:
+        return Broken(int(broken[1]), int(broken[2]))
+    raise Ended(run.returncode, *_end_lines(re.sub(rb"\A[^\n]*: a check of all its pages begins[^\n]*\n", b"", run.stderr)), 0)
 
 
 def _read_load(printed: str) -> Tuple[Loaded, bool]:

@@ -1063,6 +1063,20 @@ class LoadTest(Case):
                 irtree.load("-", self.TEXT, program=fake)
             self.assertEqual((caught.exception.status, caught.exception.loaded), (status, Loaded(2000, (Skip(3, "bad-id"),))))
 
+    def test_a_check_names_a_broken_page(self):
+        irtree.load(self.file, self.TEXT)
+        self.assertIsNone(irtree.verify(self.file, cache=0))
+        with open(self.file, "r+b") as file:
+            file.seek(39)
+            file.write(b"\3")
+        self.assertEqual(irtree.verify(self.file), irtree.Broken(0, 14))
+        with open(self.file, "r+b") as file:
+            file.seek(64)
+            file.write(b"\1")
+        with self.assertRaises(irtree.Ended) as caught:
+            irtree.verify(self.file)
+        self.assertEqual((caught.exception.status, caught.exception.line), (7, "irtree: damaged 0 1"))
+
     def test_a_store_that_another_process_has(self):
         with Store(self.file):
             with self.assertRaises(irtree.LoadEnded) as caught:

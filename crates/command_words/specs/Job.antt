@@ -7,7 +7,7 @@ use Rattle.std.specs.Str.Parse.{digits_value, without_leading_plus}
 use Rattle.clap.specs.Words.{Kinds, Row, Text, first_of, one_of}
 use Rattle.command_words.specs.Command.{refusals, values_on}
 use Rattle.command_words.specs.declared.job.Action.{Action}
-use Rattle.command_words.specs.declared.job.Action.TheVariants.{Run, Load, Make, Upgrade}
+use Rattle.command_words.specs.declared.job.Action.TheVariants.{Run, Load, Verify, Make, Upgrade}
 use Rattle.command_words.specs.declared.job.Job.{Job}
 use Rattle.command_words.specs.declared.job.PolicyName.{PolicyName}
 use Rattle.command_words.specs.declared.job.PolicyName.TheVariants.{Quadratic, Halving, Words}
@@ -44,6 +44,7 @@ abbrev pub action_of : Text → Option Action
 action_of word =
     if bytes_eq word (codes "run") then Some Run
     else if bytes_eq word (codes "load") then Some Load
+    else if bytes_eq word (codes "verify") then Some Verify
     else if bytes_eq word (codes "make") then Some Make
     else if bytes_eq word (codes "upgrade") then Some Upgrade
     else None
@@ -74,6 +75,7 @@ abbrev pub uses : Action → Text → Bool
 uses Run option = bytes_eq option (codes "cache") || bytes_eq option (codes "policy")
 uses Load option =
     bytes_eq option (codes "batch") || bytes_eq option (codes "cache") || bytes_eq option (codes "text") || bytes_eq option (codes "policy")
+uses Verify option = bytes_eq option (codes "cache")
 uses Make option =
     bytes_eq option (codes "batch") || bytes_eq option (codes "cache") || bytes_eq option (codes "policy") || bytes_eq option (codes "from")
     || bytes_eq option (codes "count")

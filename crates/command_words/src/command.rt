@@ -50,7 +50,7 @@ fn action<'a>(alloc: Global) -> Arg<'a>
     ensures local { result.global ≡ false }
 {
     Arg::new(alloc, ACTION).required(true).help(
-        "run: a script from standard input; load: GeoJSON from standard input; make: places from a seed; upgrade: a store of version 1 to version 2",
+        "run: a script from standard input; load: GeoJSON from standard input; verify: whether a store is whole; make: places from a seed; upgrade: a store of version 1 to version 2",
     )
 }
 

@@ -14,6 +14,8 @@ pub enum Action {
     Run,
     /// Loads the places of a GeoJSON text from the source.
     Load,
+    /// Decides whether the store is whole.
+    Verify,
     /// Makes places from a seed, and asks queries over them.
     Make,
     /// Carries a store of version 1 over to version 2.
@@ -37,7 +39,7 @@ impl Action {
                     || option == FROM
                     || option == COUNT
             }
-            Action::Upgrade => option == CACHE,
+            Action::Verify | Action::Upgrade => option == CACHE,
         }
     }
 }
@@ -47,6 +49,7 @@ impl fmt::Display for Action {
         f.write_str(match self {
             Action::Run => "run",
             Action::Load => "load",
+            Action::Verify => "verify",
             Action::Make => "make",
             Action::Upgrade => "upgrade",
         })

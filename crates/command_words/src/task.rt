@@ -55,7 +55,7 @@ impl fmt::Display for Refusal<'_> {
             Refusal::NotAnAction(word) => {
                 write!(
                     f,
-                    "unknown action '{word}', expected run, load, make or upgrade"
+                    "unknown action '{word}', expected run, load, verify, make or upgrade"
                 )
             }
             Refusal::NotAPolicy(word) => {
@@ -86,6 +86,8 @@ fn action_of(word: &str) -> Option<Action>
         Some(Action::Run)
     } else if word == "load" {
         Some(Action::Load)
+    } else if word == "verify" {
+        Some(Action::Verify)
     } else if word == "make" {
         Some(Action::Make)
     } else if word == "upgrade" {

@@ -1,5 +1,5 @@
-//! What people read on standard error beside the fixed line of an end: before it that an upgrade begins, and after it the file that is
-//! meant, what is wrong with it, and the next step.
+//! What people read on standard error beside the fixed line of an end: before it that an upgrade or a check begins, and after it the file
+//! that is meant, what is wrong with it, and the next step.
 
 use irtree_top::{
     Action, Ended, INPUT_MAX, InputFault, LOAD_MAX, LimitFault, StoreFault, explain_words,
@@ -36,6 +36,7 @@ impl Task<'_> {
         match (self.store, self.action) {
             (None, _) => "the store in memory ended with the run",
             (Some(_), Action::Upgrade) => "the store is as it was, or all of it was carried over",
+            (Some(_), Action::Verify) => "the store is as it was",
             (Some(_), _) => "what was acknowledged is stored",
         }
     }
@@ -44,7 +45,7 @@ impl Task<'_> {
     fn kept_of_input(&self) -> &'static str {
         match self.action {
             Action::Load => "nothing was stored",
-            Action::Run | Action::Make | Action::Upgrade => self.kept(),
+            Action::Run | Action::Verify | Action::Make | Action::Upgrade => self.kept(),
         }
     }
 }
@@ -56,6 +57,13 @@ pub(crate) fn on_start(alloc: Global, task: Task<'_>) -> Result<Option<String>, 
             let store = task.store_name(alloc)?;
             Ok(Some(format!(in alloc;
                 "{}: an upgrade begins; until it is done the store stays as it was\n",
+                store.as_str()
+            )?))
+        }
+        Action::Verify => {
+            let store = task.store_name(alloc)?;
+            Ok(Some(format!(in alloc;
+                "{}: a check of all its pages begins; nothing is changed\n",
                 store.as_str()
             )?))
         }
@@ -110,7 +118,8 @@ fn two_lines_kept(
 
 fn on_memory(alloc: Global, task: Task<'_>) -> Result<String, AllocError> {
     let step = match task.action {
-        Action::Run | Action::Upgrade => "free some memory, or use a smaller --cache",
+        Action::Run | Action::Verify | Action::Upgrade =>
+            "free some memory, or use a smaller --cache",
         Action::Load | Action::Make => "free some memory, or use a smaller --cache or --batch",
     };
     let store = task.store_name(alloc)?;
@@ -149,7 +158,7 @@ fn on_pages(alloc: Global, task: Task<'_>) -> Result<String, AllocError> {
 fn on_source(alloc: Global, task: Task<'_>) -> Result<String, AllocError> {
     let step = match task.action {
         Action::Load => "check where it comes from, and load again",
-        Action::Run | Action::Make | Action::Upgrade => {
+        Action::Run | Action::Verify | Action::Make | Action::Upgrade => {
             "check where it comes from, and send the lines that have no reply yet"
         }
     };
@@ -164,7 +173,9 @@ fn on_source(alloc: Global, task: Task<'_>) -> Result<String, AllocError> {
 
 fn on_sink(alloc: Global, task: Task<'_>) -> Result<String, AllocError> {
     let step = match (task.store, task.action) {
-        (None, _) | (Some(_), Action::Upgrade) => "check where it goes, and run again",
+        (None, _) | (Some(_), Action::Verify | Action::Upgrade) => {
+            "check where it goes, and run again"
+        }
         (Some(_), _) => {
             "check where it goes, and run again; the update whose reply is missing may be stored, too"
         }
@@ -219,7 +230,7 @@ fn on_length(alloc: Global, task: Task<'_>) -> Result<String, AllocError> {
             "nothing was stored",
             "split it into several FeatureCollections, and load one after the other",
         ),
-        Action::Run | Action::Make | Action::Upgrade => (
+        Action::Run | Action::Verify | Action::Make | Action::Upgrade => (
             "script",
             INPUT_MAX,
             "the lines that end within them were run",
@@ -285,7 +296,7 @@ fn broken_rule(rule: Rule) -> &'static str {
         Rule::Shared => "it is used twice, or neither used nor free",
         Rule::Rect => "a rectangle isn't the least one round what is below it",
         Rule::Row => "a row of words isn't that of the words below it",
-        Rule::Entry => "the tree lacks a place that the place map has",
+        Rule::Entry => "the tree and the place map disagree about a place",
         Rule::Words =>
             "the word maps disagree, count a word's places wrong, or have a number too high",
         Rule::Counts => "the number of places or the next serial disagrees with the place map",

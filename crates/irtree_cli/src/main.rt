@@ -15,7 +15,7 @@ use crate::advice::{Task, advice_on, on_foreign_word, on_start};
 use irtree_top::{Action, Ended, PolicyName, WordsFault, read_words, run};
 use spatial_base::Memory;
 use split_policy::{Halving, Quadratic, SplitPolicy};
-use std::alloc::Global;
+use std::alloc::{AllocError, Global};
 use std::io::{ErrorKind, Write};
 use std::process::ExitCode;
 use std_devices::{FileStation, ScratchStation, StdSource};
@@ -169,28 +169,39 @@ fn run_words(rt: &HostRuntime) -> Result<Outcome, Memory> {
     }
 }
 
-// Prints the end's fixed line, alone, and then the advice, on standard error.
-fn report(alloc: Global, outcome: &Outcome, err: &mut impl Write) -> Result<(), Memory> {
-    let mut lines = Vec::new(alloc);
-    outcome.end.write_text(&mut lines)?;
-    if let Some(advice) = &outcome.advice {
-        lines
-            .extend_from_slice(advice.as_bytes())
-            .map_err(|_| Memory)?;
-        if !advice.ends_with('\n') {
-            lines.push(b'\n').map_err(|_| Memory)?;
-        }
+// The bytes of the longest fixed line of an end, and a few more.
+const LONGEST_LINE: usize = 64;
+
+// Appends the advice, its last LF included.
+fn add_advice(advice: &str, lines: &mut Vec<u8>) -> Result<(), AllocError> {
+    lines.extend_from_slice(advice.as_bytes())?;
+    if !advice.ends_with('\n') {
+        lines.push(b'\n')?;
     }
-    // If standard error can't be written, only the status is left.
-    let _ = err.write_all(&lines);
     Ok(())
 }
 
+// Prints the end's fixed line, alone, and then the advice if memory is left for it, on standard error. The lines are empty and have room
+// for the fixed one.
+fn report(outcome: &Outcome, lines: &mut Vec<u8>, err: &mut impl Write) {
+    let _ = outcome.end.write_text(&mut *lines);
+    let fixed = lines.len();
+    if let Some(advice) = &outcome.advice {
+        if add_advice(advice, &mut *lines).is_err() {
+            lines.truncate(fixed);
+        }
+    }
+    // If standard error can't be written, only the status is left.
+    let _ = err.write_all(lines);
+}
+
 fn main(rt: HostRuntime) -> ExitCode {
-    let outcome = run_words(&rt).unwrap_or(plain(Ended::Memory));
-    let _ = match report(rt.alloc(), &outcome, &mut rt.stderr()) {
-        Ok(()) => Ok(()),
-        Err(Memory) => report(rt.alloc(), &plain(outcome.end), &mut rt.stderr()),
+    // The fixed line's memory is taken first, so that it can be printed when none is left.
+    let Ok(mut lines) = Vec::with_capacity(rt.alloc(), LONGEST_LINE) else {
+        let _ = rt.stderr().write_all(b"irtree: want of memory\n");
+        return ExitCode::from(Ended::Memory.status());
     };
+    let outcome = run_words(&rt).unwrap_or(plain(Ended::Memory));
+    report(&outcome, &mut lines, &mut rt.stderr());
     ExitCode::from(outcome.end.status())
 }

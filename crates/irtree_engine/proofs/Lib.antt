@@ -7,6 +7,7 @@ pub mod EachRead
 pub mod Effects
 pub mod Heads
 pub mod Hiding
+pub mod InRange
 pub mod Logs
 pub mod Named
 pub mod NoHead
@@ -17,3 +18,4 @@ pub mod Standing
 pub mod Takes
 pub mod Trees
 pub mod Upgrades
+pub mod Wholes

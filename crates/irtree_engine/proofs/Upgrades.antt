@@ -3,8 +3,6 @@ use Rattle.std.proofs.Common.{◌≡◌, ◌≢◌, ℕ, Bool, true, false, cond
 use Rattle.disk_model.specs.World.{World, Image, LeavesOnly}
 use Rattle.disk_model.proofs.Moments.{then, within}
 use Rattle.page_face.specs.declared.fault.Damage.{Damage}
-use Rattle.page_face.specs.declared.fault.PageFault.{PageFault}
-use Rattle.page_face.specs.declared.fault.PageFault.TheVariants as pages
 use Rattle.page_face.specs.declared.fault.Rule.TheVariants.{Head}
 use Rattle.page_face.specs.declared.head.Version.TheVariants.{One, Two}
 use Rattle.disk_model.specs.declared.disk.Area.TheVariants.{Journal}
@@ -21,7 +19,6 @@ use Rattle.place_values.specs.State as states
 use Rattle.store_model.specs.Stands.{PagesStand, Stands}
 use Rattle.store_model.proofs.Images.{area-one}
 use Rattle.store_upgrade.specs.Version1.{PagesStandVersion1, StandsVersion1}
-use Rattle.irtree_engine.specs.Faults.{fault_of_pages}
 use Rattle.irtree_engine.specs.declared.fault.EngineFault.{EngineFault}
 use Rattle.irtree_engine.specs.declared.fault.EngineFault.TheVariants as engine
 use Rattle.irtree_engine.specs.Holding.{HasBrokenHead, IsForeign, IsVersion1, LeavesState, StandsForNone}

@@ -8,3 +8,4 @@ pub mod Queries
 pub mod Shown
 pub mod Updates
 pub mod Upgrades
+pub mod Verified

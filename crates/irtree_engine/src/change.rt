@@ -2,6 +2,7 @@
 ghost use Rattle.std.specs.Prelude.{◌≡◌, ◌≤◌, ◌<◌, ◌+◌, ◌^◌, ◌↔◌, List, ◌∷◌, Option, Ok, Err, IsTrue, IfOk, IfErr, OnOk, IsErrOf, length, option_map, ◌≢◌};
 ghost use Rattle.std.specs.List.{AllByRecursion};
 ghost use Rattle.page_face.specs.Calls.{Changes};
+ghost use Rattle.page_store.specs.Superblock.{IsInRange};
 ghost use Rattle.btree_nodes.specs.Damages.{AreReadable};
 ghost use Rattle.place_values.specs.State.{Contents, IsSerialAbove};
 ghost use Rattle.spatial_base.specs.Key.{Name};
@@ -16,6 +17,7 @@ ghost use Rattle.irtree_engine.specs.Changes.{block_with, head_at, head_with, tr
 
 use crate::EngineFault;
 use crate::fault::broken_by_head;
+use crate::ranges::check_head;
 use indexmap::IndexMap;
 use node_inverted::Tree;
 use page_face::{Damage, Head, Pages, Rule};
@@ -32,7 +34,8 @@ use term_impacts::{Label, Word, Words};
 /// Changes the tables, the tree and page 0's fields by one update. A key that a Put names is a text key.
 ///
 /// Refuses `Full`, `Worn` and what the tables and the tree refuse. Refuses `Damaged` with the rule Counts if page 0 counts no place and one
-/// is removed. After a refusal the fields are as before, and pages may have changed.
+/// is removed. Refuses `Damaged` also if page 0's fields would leave their ranges, so that the store couldn't be opened: as [`check_head`]
+/// names it, with the fields changed. After every other refusal they are as before. Pages may have changed after any.
 pub(crate) fn update<P: Pages>(
     alloc: Global,
     pages: &mut P,
@@ -48,6 +51,7 @@ pub(crate) fn update<P: Pages>(
     ensures due { (state : Contents) → PagesStand (block_with (P.count pages.old) (P.first pages.old) head.old) (P.pages pages.old) state
         → AreReadable (P.pages pages.old) (P.count pages.old) → IfErr result (IsDueTo (effect_of state update.now).answer) }
     ensures numbers { OnOk result (AreHeadNumbers head.new) }
+    ensures in_range { OnOk result (IsInRange (block_with (P.count pages.new) (P.first pages.new) head.new)) }
     ensures no_head { ((p : P) → AreReadable (P.pages p) (P.count p)) → (damage : Damage) → IsErrOf result (EngineFault.Damaged damage) → damage.rule ≢ Rule.Head }
     ensures limits { IfErr result (IsAtLimit head.old.live head.old.number) }
     ensures causes { IfErr result IsUpdateFault }
@@ -57,7 +61,14 @@ pub(crate) fn update<P: Pages>(
     ensures fails { FailsUpdating P.Pages pages.old pages.new result }
     ensures frame { Changes P.Pages pages.old pages.new }
 {
-    update_in_batch(alloc, pages, head, policy, update, &None)
+    let applied = match update_in_batch(alloc, pages, head, policy, update, &None) {
+        Ok(applied) => applied,
+        Err(fault) => return Err(fault),
+    };
+    match check_head(&*pages, head) {
+        Ok(()) => Ok(applied),
+        Err(damage) => Err(EngineFault::Damaged(damage)),
+    }
 }
 
 /// Changes the tables, the tree and page 0's fields by all updates, one after another. A key that a Put names is a text key.
@@ -67,6 +78,40 @@ pub(crate) fn update<P: Pages>(
 /// Holds the words of all Puts first, each once for all the places that are to hold it, unless places or update numbers may run out. So a
 /// word of a batch costs a look-up by text, a look-up by number and one or two puts, however many places hold it.
 pub(crate) fn update_all<P: Pages>(
+    alloc: Global,
+    pages: &mut P,
+    head: &mut Head,
+    policy: &mut dyn SplitPolicy,
+    updates: &[Update],
+) -> Result<(), EngineFault>
+    requires texts { AllByRecursion NamesText updates.now }
+    requires numbers { AreHeadNumbers head.old }
+    ensures updated { (state : Contents) → PagesStand (block_with (P.count pages.old) (P.first pages.old) head.old) (P.pages pages.old) state
+        → OnOk result (StandForOutcome (state_after_all state updates.now) (block_with (P.count pages.new) (P.first pages.new) head.new) (P.pages pages.new)) }
+    ensures due { (state : Contents) → PagesStand (block_with (P.count pages.old) (P.first pages.old) head.old) (P.pages pages.old) state
+        → ((p : P) → AreReadable (P.pages p) (P.count p)) → IfErr result (IsDueTo (state_after_all state updates.now)) }
+    ensures numbers { OnOk result (AreHeadNumbers head.new) }
+    ensures in_range { OnOk result (IsInRange (block_with (P.count pages.new) (P.first pages.new) head.new)) }
+    ensures no_head { ((p : P) → AreReadable (P.pages p) (P.count p)) → (damage : Damage) → IsErrOf result (EngineFault.Damaged damage) → damage.rule ≢ Rule.Head }
+    ensures limits { IfErr result (IsAtLimit (head.old.live + length updates.now) (head.old.number + length updates.now)) }
+    ensures causes { IfErr result IsUpdateFault }
+    ensures one_more_each { (head.new.live ≤ head.old.live + length updates.now) × (head.new.number ≤ head.old.number + length updates.now) }
+    ensures stays { result ≢ Err EngineFault.Disk → P.faults pages.new ≡ P.faults pages.old }
+    ensures fails { FailsUpdating P.Pages pages.old pages.new result }
+    ensures frame { Changes P.Pages pages.old pages.new }
+{
+    match update_each(alloc, pages, head, policy, updates) {
+        Ok(()) => {}
+        Err(fault) => return Err(fault),
+    }
+    match check_head(&*pages, head) {
+        Ok(()) => Ok(()),
+        Err(damage) => Err(EngineFault::Damaged(damage)),
+    }
+}
+
+// Does what `update_all` does, before page 0's fields are checked.
+fn update_each<P: Pages>(
     alloc: Global,
     pages: &mut P,
     head: &mut Head,

@@ -33,6 +33,7 @@ pub struct Engine<'d, D: Station, P: Drop = Box<dyn SplitPolicy>> {
     ghost settled: { store.current ≡ store.last },
     ghost stops: { stopped ≡ store.stopped },
     ghost numbers: { AreHeadNumbers store.current.head },
+    ghost in_range: { IsInRange store.current },
 }
 
 impl<'d, D: Station> Engine<'d, D> {
@@ -157,8 +158,8 @@ impl<'d, D: Station> Engine<'d, D> {
         self.store.say(bytes)
     }
 
-    /// Returns the numbers of the pages that the last answer, show, apply or apply_batch requested, in order. Each read of the device that
-    /// an answer or a show makes is of one of these pages. Makes no call of the disk.
+    /// Returns the numbers of the pages that the last answer, show, verify, apply or apply_batch requested, in order. Each read of the
+    /// device that an answer, a show or a verify makes is of one of these pages. Makes no call of the disk.
     pub fn read_log(&self) -> &[u32]
         ensures { result.now ≡ self.now.store.asked.items }
     {

@@ -5,6 +5,7 @@
 //! [`Engine::apply_batch`] change it. An update, or a whole batch of them, is stored in one commit. A crash at any moment of it leaves an
 //! image of the state before it or of the one after all of it. [`Engine::open`], which recovers the journal, keeps that state.
 //! [`Engine::settle`] brings what the journal holds to its place, and [`Engine::read_log`] names the pages that the last call requested.
+//! [`Engine::verify`] decides whether the image holds a state at all, and otherwise names a page and the rule that is broken there.
 //!
 //! Beside the place table the store keeps an R-tree with one entry for each place, which the same commit changes. It grows under the policy
 //! that the engine was handed, a box of any `SplitPolicy`; [`Engine::set_policy`] hands it another. Answers come from the tree. The policy
@@ -25,12 +26,15 @@ mod engine;
 mod fault;
 mod opening;
 mod queries;
+mod ranges;
 mod reading;
 mod room;
 mod updating;
 mod upgrading;
+mod verifying;
 
 pub use engine::Engine;
 pub use fault::EngineFault;
 pub use opening::recover_superblock;
+pub use store_verify::Verdict;
 pub use upgrading::upgrade;

@@ -5,6 +5,7 @@ ghost use Rattle.disk_model.specs.World.{LeavesOnly};
 ghost use Rattle.disk_model.specs.World as worlds;
 ghost use Rattle.page_face.specs.Causes.{Rose};
 ghost use Rattle.page_store.specs.Store.{Rests};
+ghost use Rattle.page_store.specs.Superblock.{IsInRange};
 ghost use Rattle.place_values.specs.State.{Contents};
 ghost use Rattle.place_values.specs.Update.{NamesText, effect_of};
 ghost use Rattle.store_model.specs.Stands.{PagesStand};
@@ -229,6 +230,8 @@ fn commit<'d, D: Station>(
     requires on { store.old.stopped ≡ false }
     requires going { stopped.old ≡ false }
     requires head { store.old.current.head ≡ store.old.last.head }
+    requires last { IsInRange store.old.last }
+    requires in_range { IsInRange (block_with store.old.current.counted store.old.current.first_free head.now) }
     ensures same_loan { store.new.disk.ghost_name ≡ store.old.disk.ghost_name }
     ensures stored { IsTrue D.readable → (before after : Contents) → HoldsState (D.world store.old.disk.now) before
         → PagesStand (block_with store.old.current.counted store.old.current.first_free head.now) (⟦<Store<'d, D> as Pages>⟧.pages store.old) after → IsLater before after
@@ -239,6 +242,7 @@ fn commit<'d, D: Station>(
     ensures idle { IsTrue D.readable → head.now.number ≡ store.old.current.head.number → Rests (D.world store.old.disk.now) (D.world store.new.disk.now) }
     ensures clean { store.new.overlay.entries ≡ [] }
     ensures settled { store.new.current ≡ store.new.last }
+    ensures in_range { IsInRange store.new.current }
     ensures causes { IfErr result IsCommitFault }
     ensures disk { IsErrOf result EngineFault.Disk → worlds.Rose (D.world store.old.disk.now).faults (D.world store.new.disk.now).faults }
     ensures stays { result ≢ Err EngineFault.Disk → (D.world store.new.disk.now).faults ≡ (D.world store.old.disk.now).faults }

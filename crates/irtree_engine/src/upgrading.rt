@@ -32,8 +32,9 @@ const TAKES_A_PLACE: u64 = 257;
 ///
 /// Refuses `NotAStore`, `BadJournal` and `Damaged` with the rule Head at page 0 as [`recover_superblock`] does; `Damaged` by another rule,
 /// never if the image holds a state; `Disk`; `Memory`. Refuses `NoRoom` only for a store of version 1. Then the free pages, and those that
-/// the disk has room for beside the pages counted, are together no more than 257 for each place. After a bad journal nothing was written.
-/// After every other refusal but `Disk` the journal is recovered, and the store has the pages that it had before, also at every crash.
+/// the disk has room for beside the pages counted, are together no more than 257 for each place. It looks at each page of the free list
+/// first, and at no more of them than that. After a bad journal nothing was written. After every other refusal but `Disk` the journal is
+/// recovered, and the store has the pages that it had before, also at every crash.
 ///
 /// Costs two recoveries, and for each place a look-up and a removal in the old place map and a put into the new one. Then it costs a commit
 /// and a checkpoint of all pages of both maps, which are in memory until then.

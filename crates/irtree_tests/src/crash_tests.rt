@@ -1,38 +1,32 @@
 //! What a store holds after a crash.
+use crate::failing::{EACH_WAY, Failing, TEARS, is_faultless, is_named, set_to_fail};
 use crate::runs::{ROOM, RUN, bytes_of, run_on, stored_by};
-use disk_model::{Area, CallKind, Fail as Planned, MemoryStation, Tear};
+use disk_model::{Area, MemoryStation, Tear};
 use irtree_top::Ended;
 use std::alloc::Global;
 use std::test::Fail;
 
-/// What a crash may do to bytes that are pending.
-pub(crate) static TEARS: [Tear; 5] = [
-    Tear::Kept,
-    Tear::Lost,
-    Tear::Filled(0),
-    Tear::Filled(1),
-    Tear::Filled(255),
-];
+// Five places.
+const FIVE: &[u8] =
+    b"{\"type\":\"FeatureCollection\",\"features\":[{\"type\":\"Feature\",\"geometry\":{\"type\":\"Point\",\"coordinates\":[1,2]},\"properties\":{\"t\":\"x\"}},{\"type\":\"Feature\",\"geometry\":{\"type\":\"Point\",\"coordinates\":[2,3]},\"properties\":{\"t\":\"x y\"}},{\"type\":\"Feature\",\"geometry\":{\"type\":\"Point\",\"coordinates\":[3,4]}},{\"type\":\"Feature\",\"id\":7,\"geometry\":{\"type\":\"Point\",\"coordinates\":[4,5]},\"properties\":{\"t\":\"y z\"}},{\"type\":\"Feature\",\"id\":\"e\",\"geometry\":{\"type\":\"Point\",\"coordinates\":[5,6]},\"properties\":{\"t\":\"z\"}}]}";
 
-// Three places.
-const THREE: &[u8] =
-    b"{\"type\":\"FeatureCollection\",\"features\":[{\"type\":\"Feature\",\"geometry\":{\"type\":\"Point\",\"coordinates\":[1,2]},\"properties\":{\"t\":\"x\"}},{\"type\":\"Feature\",\"geometry\":{\"type\":\"Point\",\"coordinates\":[2,3]},\"properties\":{\"t\":\"x y\"}},{\"type\":\"Feature\",\"geometry\":{\"type\":\"Point\",\"coordinates\":[3,4]}}]}";
-
-// A script that makes a store, the words and the input of a run over it, and a question. Then the question's replies: before the run's
-// first change, after the first, and so on.
+// A script that makes a store, the words and the input of a run over it, all that the run prints, and a question. Then the question's
+// replies: before the run's first change, after the first, and so on.
 struct Case {
     store: &'static [u8],
     given: &'static [&'static str],
     input: &'static [u8],
+    said: &'static [u8],
     question: &'static [u8],
     answers: &'static [&'static [u8]],
 }
 
-static CASES: [Case; 6] = [
+static CASES: [Case; 7] = [
     Case {
         store: b"add a 0 0\n",
         given: &["-", "run"],
         input: b"add b 1 1\n",
+        said: b"ok\n",
         question: b"count\n",
         answers: &[b"count 1\n", b"count 2\n"],
     },
@@ -40,6 +34,7 @@ static CASES: [Case; 6] = [
         store: b"add a 0 0 x y\nadd b 0 0 y z\n",
         given: &["-", "run"],
         input: b"remove a\n",
+        said: b"ok\n",
         question: b"range 0 0 1 where y\n",
         answers: &[
             b"= 2\n1 \"a\" 0.0000000\n2 \"b\" 0.0000000\n",
@@ -50,6 +45,7 @@ static CASES: [Case; 6] = [
         store: b"add a 0 0 x y\n",
         given: &["-", "run"],
         input: b"add a 1 1 y z\n",
+        said: b"ok replaced\n",
         question: b"show a\n",
         answers: &[
             b"place \"a\" 0.0000000 0.0000000 2 \"x y\"\n\"x\" 128\n\"y\" 128\n",
@@ -60,21 +56,33 @@ static CASES: [Case; 6] = [
         store: b"",
         given: &["-", "run"],
         input: b"add a 0 0 x\nadd b 1 1 y\nremove a\nnearest 0 0 2\n",
+        said: b"ok\nok\nok\n= 1\n1 \"b\" 1.4142135\n",
         question: b"count\n",
         answers: &[b"count 0\n", b"count 1\n", b"count 2\n", b"count 1\n"],
     },
-    // A load and a make in batches of one place leave whole batches.
+    // Without a cache, pages are read again in the middle of each change.
     Case {
         store: b"",
-        given: &["-", "load", "--batch=1"],
-        input: THREE,
+        given: &["-", "run", "--cache=0"],
+        input: b"add a 0 0 x\nadd b 1 1 y\nremove a\nnearest 0 0 2\n",
+        said: b"ok\nok\nok\n= 1\n1 \"b\" 1.4142135\n",
         question: b"count\n",
-        answers: &[b"count 0\n", b"count 1\n", b"count 2\n", b"count 3\n"],
+        answers: &[b"count 0\n", b"count 1\n", b"count 2\n", b"count 1\n"],
+    },
+    // A load and a make leave whole batches.
+    Case {
+        store: b"",
+        given: &["-", "load", "--batch=2"],
+        input: FIVE,
+        said: b"stored 2\nstored 4\nstored 5\nloaded 5 skipped 0\n",
+        question: b"count\n",
+        answers: &[b"count 0\n", b"count 2\n", b"count 4\n", b"count 5\n"],
     },
     Case {
         store: b"",
-        given: &["-", "make", "--batch=1", "--count=3"],
+        given: &["-", "make", "--from=7", "--batch=1", "--count=3"],
         input: b"",
+        said: b"stored 1\nstored 2\nstored 3\nmade 3 places 3 queries 9 hits sum 1842162097335000\n",
         question: b"count\n",
         answers: &[b"count 0\n", b"count 1\n", b"count 2\n", b"count 3\n"],
     },
@@ -135,48 +143,33 @@ fn is_kept_always(alloc: Global, case: &Case, station: &MemoryStation) -> Result
     Ok(true)
 }
 
-#[test]
-fn a_crash_after_any_call_leaves_every_acknowledged_update(rt: HostRuntime) -> Result<(), Fail> {
-    for (row, case) in CASES.iter().enumerate() {
-        for calls in 0..200 {
-            let mut station = stored_by(rt.alloc(), &RUN, case.store)?;
-            station.stop_after(calls);
-            let ended = run_on(rt.alloc(), case.given, case.input, 100, &mut station)?;
-            assert!(rt;
-                is_kept_always(rt.alloc(), case, &station)?,
-                "row {row} after {calls} calls"
-            );
-            if ended == Ended::Done {
-                assert!(rt; acknowledged(station.said()).saturating_add(1) == case.answers.len());
-                break;
-            }
+// The number of the first call whose failure is passed over, has another status, lets a wrong line through, or loses an update that was
+// acknowledged.
+fn first_wrong(alloc: Global, case: &Case, failing: Failing) -> Result<Option<u64>, Fail> {
+    let made = stored_by(alloc, &RUN, case.store)?;
+    for nth in 1..1_000 {
+        let mut station = made.crashed(Tear::Kept)?;
+        set_to_fail(&mut station, failing, nth)?;
+        let ended = run_on(alloc, case.given, case.input, 100, &mut station)?;
+        let is_right = is_named(failing, ended, &station, case.said);
+        if !is_right || !is_kept_always(alloc, case, &station)? {
+            return Ok(Some(nth));
+        }
+        if is_faultless(&station) {
+            return Ok(None);
         }
     }
-    Ok(())
+    Err("no run was without a failing call".into())
 }
 
-static KINDS: [CallKind; 4] = [
-    CallKind::Read,
-    CallKind::Write,
-    CallKind::Sync,
-    CallKind::Say,
-];
-
 #[test]
-fn any_call_that_fails_leaves_every_acknowledged_update(rt: HostRuntime) -> Result<(), Fail> {
-    let case = &CASES[3];
-    for kind in KINDS {
-        for nth in 1..200 {
-            let mut station = stored_by(rt.alloc(), &RUN, case.store)?;
-            station.fail_at(&[Planned { kind, nth }])?;
-            let ended = run_on(rt.alloc(), case.given, case.input, 100, &mut station)?;
-            assert!(rt;
-                is_kept_always(rt.alloc(), case, &station)?,
-                "where {kind:?} {nth} failed"
-            );
-            if ended == Ended::Done {
-                break;
-            }
+fn any_call_that_fails_is_named_and_leaves_every_acknowledged_update(
+    rt: HostRuntime,
+) -> Result<(), Fail> {
+    for (row, case) in CASES.iter().enumerate() {
+        for failing in EACH_WAY {
+            let wrong = first_wrong(rt.alloc(), case, failing)?;
+            assert_eq!(rt; wrong, None, "row {row}, {failing:?}");
         }
     }
     Ok(())

@@ -9,6 +9,8 @@ mod crash_tests;
 #[cfg(test)]
 mod damage_tests;
 #[cfg(test)]
+mod failing;
+#[cfg(test)]
 mod language_tests;
 #[cfg(test)]
 mod load_tests;
@@ -26,3 +28,5 @@ mod script_tests;
 mod store_tests;
 #[cfg(test)]
 mod upgrade_tests;
+#[cfg(test)]
+mod verify_tests;

@@ -56,7 +56,7 @@ static REFUSED: [&[&str]; 10] = [
     &[],
     &["-"],
     &["-", "dance"],
-    &["-", "verify"],
+    &["-", "verify", "--batch", "1"],
     &["run", "-"],
     &["-", "run", "--count", "5"],
     &["-", "run", "--batch", "1"],

@@ -1,8 +1,8 @@
 //! Upgrades of stores of version 1.
-use crate::crash_tests::TEARS;
+use crate::failing::{EACH_WAY, Failing, TEARS, is_faultless, is_named, set_to_fail};
 use crate::load_tests::FOUR;
 use crate::runs::{LOAD, ROOM, RUN, all_pages, number_at, run_on, stored_by};
-use disk_model::{CallKind, Fail as Planned, MemoryStation, Tear};
+use disk_model::{MemoryStation, Tear};
 use irtree_top::{Ended, StoreFault};
 use std::alloc::Global;
 use std::test::Fail;
@@ -107,61 +107,6 @@ fn an_upgrade_of_other_bytes_is_refused(rt: HostRuntime) -> Result<(), Fail> {
     Ok(())
 }
 
-// Calls of the station that fail in an upgrade, how it ends, and the line of the upgrade after it.
-static FAULTS: [(Planned, Ended, &[u8]); 4] = [
-    (
-        Planned {
-            kind: CallKind::Read,
-            nth: 1,
-        },
-        Ended::Disk,
-        b"upgraded 2\n",
-    ),
-    (
-        Planned {
-            kind: CallKind::Write,
-            nth: 1,
-        },
-        Ended::Disk,
-        b"upgraded 2\n",
-    ),
-    (
-        Planned {
-            kind: CallKind::Sync,
-            nth: 2,
-        },
-        Ended::Disk,
-        b"upgraded 2\n",
-    ),
-    (
-        Planned {
-            kind: CallKind::Say,
-            nth: 1,
-        },
-        Ended::Sink,
-        b"version 2\n",
-    ),
-];
-
-#[test]
-fn an_upgrade_that_failed_is_made_again(rt: HostRuntime) -> Result<(), Fail> {
-    for (row, (call, end, line)) in FAULTS.iter().enumerate() {
-        let mut station = old_store(rt.alloc())?;
-        station.fail_at(&[*call])?;
-        assert!(rt;
-            upgrades_to(rt.alloc(), &mut station, *end, b"")?,
-            "row {row}"
-        );
-        let mut left = station.crashed(Tear::Lost)?;
-        assert!(rt;
-            upgrades_to(rt.alloc(), &mut left, Ended::Done, line)?,
-            "row {row}"
-        );
-        assert!(rt; is_upgraded(rt.alloc(), &left)?, "row {row}");
-    }
-    Ok(())
-}
-
 const PRESENT: &[u8] = b"version 2\n";
 
 const CARRIED: &[u8] = b"upgraded 2\n";
@@ -181,19 +126,30 @@ fn is_kept_always(alloc: Global, station: &MemoryStation) -> Result<bool, Fail> 
     Ok(true)
 }
 
-#[test]
-fn a_crash_after_any_call_leaves_the_places_by_version_1_or_2(rt: HostRuntime) -> Result<(), Fail> {
-    for calls in 0..200 {
-        let mut station = old_store(rt.alloc())?;
-        station.stop_after(calls);
-        let ended = run_on(rt.alloc(), &UPGRADE, b"", 100, &mut station)?;
-        assert!(rt;
-            is_kept_always(rt.alloc(), &station)?,
-            "after {calls} calls"
-        );
-        if ended == Ended::Done {
-            break;
+// The number of the first call of an upgrade whose failure is passed over, has another status, or loses a place.
+fn first_wrong(alloc: Global, failing: Failing) -> Result<Option<u64>, Fail> {
+    let made = old_store(alloc)?;
+    for nth in 1..1_000 {
+        let mut station = made.crashed(Tear::Kept)?;
+        set_to_fail(&mut station, failing, nth)?;
+        let ended = run_on(alloc, &UPGRADE, b"", 100, &mut station)?;
+        let is_right = is_named(failing, ended, &station, CARRIED);
+        if !is_right || !is_kept_always(alloc, &station)? {
+            return Ok(Some(nth));
         }
+        if is_faultless(&station) {
+            return Ok(None);
+        }
+    }
+    Err("no upgrade was without a failing call".into())
+}
+
+#[test]
+fn any_call_that_fails_is_named_and_leaves_the_places_by_version_1_or_2(
+    rt: HostRuntime,
+) -> Result<(), Fail> {
+    for failing in EACH_WAY {
+        assert_eq!(rt; first_wrong(rt.alloc(), failing)?, None, "{failing:?}");
     }
     Ok(())
 }

@@ -1,5 +1,5 @@
 -- What a crash leaves of a job, in the words of its user.
-use Rattle.std.proofs.Common.{◌≡◌, ℕ, ◌≤◌, ⊎_elim, inl, List, [], refl, sym, subst, ◌∙◌, arith}
+use Rattle.std.proofs.Common.{◌≡◌, ℕ, ◌≤◌, ⊎_elim, inl, List, [], take, refl, sym, subst, ◌∙◌, arith}
 use Rattle.std.specs.Prelude.{Ok}
 use Rattle.std.proofs.lemmas.List.{append-nil}
 use Rattle.disk_model.specs.World.{World, Image, LeavesOnly}
@@ -14,10 +14,11 @@ use Rattle.load_run.specs.Making.{LeftByMake, items_from, make_transcript, says_
 use Rattle.run_outcome.specs.Script.{script_lines, script_transcript}
 use Rattle.run_outcome.specs.Turn.{Transcript}
 use Rattle.command_words.specs.declared.job.Action.{Action}
-use Rattle.command_words.specs.declared.job.Action.TheVariants.{Run, Load, Make, Upgrade}
+use Rattle.command_words.specs.declared.job.Action.TheVariants.{Run, Load, Verify, Make, Upgrade}
 use Rattle.irtree_top.specs.Run.{HoldsPrefix, IsNear, acked}
 use Rattle.command_words.specs.Job.{Asked}
-use Rattle.irtree_top.proofs.Jobs.{script-only, load-only, make-only}
+use Rattle.irtree_top.specs.Verify.{LeftByVerify, verify_transcript, whole_line}
+use Rattle.irtree_top.proofs.Jobs.{script-only, load-only, make-only, verify-only}
 use Rattle.irtree_top.proofs.Loads.{load-prefix, loaded-passed, made-passed}
 use Rattle.irtree_top.proofs.Scripts.{script-prefix}
 use Rattle.irtree_top.proofs.Transcripts.{OutcomeIsOne}
@@ -26,6 +27,7 @@ use Rattle.irtree_top.proofs.Transcripts.{OutcomeIsOne}
 acked-none : (action : Action) → acked action [] ≤ 0
 acked-none Run = omega arith
 acked-none Load = omega arith
+acked-none Verify = omega arith
 acked-none Make = omega arith
 acked-none Upgrade = omega arith
 
@@ -33,6 +35,7 @@ acked-none Upgrade = omega arith
 near-none : (action : Action) (batch all : ℕ) → 1 ≤ batch → IsNear action batch 0 (acked action []) all
 near-none Run batch all some = omega arith
 near-none Load batch all some = (omega arith, inl (omega arith))
+near-none Verify batch all some = refl
 near-none Make batch all some = (omega arith, inl (omega arith))
 near-none Upgrade batch all some = refl
 
@@ -76,6 +79,13 @@ module _ (asked : Asked) (state : Contents) (input : List ℕ) (some : 1 ≤ ask
       (subst (λ a. HoldsAcked (acked a) (IsNear a asked.batch) state (make_transcript asked.batch asked.from asked.count state).turn.changes old.said image said) (sym makes)
       (load-prefix (says_made asked.from asked.count) (made-passed asked.from asked.count) asked.batch some state (items_from asked.from 0 asked.count) old.said image said steps)))
       left)
+
+  -- of a check none is acknowledged, and none is held
+  pub verify-left : asked.action ≡ Verify → (old new : World) → LeavesOnly old new (LeftByVerify state old.said) → LeavesOnly old new (HoldsPrefix asked state input old)
+  verify-left verifies old new leaves = within leaves (λ image said left whole is.
+      subst (λ (t : Transcript). HoldsAcked (acked asked.action) (IsNear asked.action asked.batch) state t.turn.changes old.said image said) (sym (verify-only asked state input verifies whole is))
+      (subst (λ a. HoldsAcked (acked a) (IsNear a asked.batch) state (verify_transcript state).turn.changes old.said image said) (sym verifies)
+      (record { spoken = take left.1.0 whole_line; is = left.1.1; some = 0; most = omega arith; stands = left.0; acknowledged = omega arith; near = refl })))
 
   -- from where as much was said
   pub left-from : (old was : World) → was.said ≡ old.said → (image : Image) (said : List ℕ) → HoldsPrefix asked state input was image said → HoldsPrefix asked state input old image said

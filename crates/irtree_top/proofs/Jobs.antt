@@ -22,10 +22,11 @@ use Rattle.run_outcome.specs.declared.ended.LimitFault.{LimitFault}
 use Rattle.run_outcome.specs.declared.ended.LimitFault.TheVariants as limits
 use Rattle.script_run.specs.Standing.{EndsScript}
 use Rattle.command_words.specs.declared.job.Action.{Action}
-use Rattle.command_words.specs.declared.job.Action.TheVariants.{Run, Load, Make, Upgrade}
+use Rattle.command_words.specs.declared.job.Action.TheVariants.{Run, Load, Verify, Make, Upgrade}
 use Rattle.irtree_top.specs.Run.{EndsBy, EndsJob, IsUnreadEnd, LeavesInput, SaysFront, SaysWhatWasRead, StopsAtLimit, StopsForRoom}
 use Rattle.irtree_top.specs.Transcript.{IsTranscript, IsTranscriptBy}
 use Rattle.command_words.specs.Job.{Asked}
+use Rattle.irtree_top.specs.Verify.{EndsVerify, verify_transcript}
 use Rattle.irtree_top.proofs.Fronts.{batch-front, line-front, none-said, whole-said}
 use Rattle.irtree_top.proofs.Transcripts.{OutcomeIsOne, taken-one}
 
@@ -151,6 +152,35 @@ module _ (asked : Asked) (state : Contents) (input : List ℕ) (makes : asked.ac
   make-ends T left old new (Err ends.Done) same says = absurd says
   make-ends T left old new (Err ends.Words) same says = absurd says
 
+-- ---- a check
+
+module _ (asked : Asked) (state : Contents) (input : List ℕ) (verifies : asked.action ≡ Verify) where
+  verify-is : IsTranscript state asked input (verify_transcript state)
+  verify-is = subst (λ a. IsTranscriptBy a asked state input (verify_transcript state)) (sym verifies) refl
+
+  -- its one transcript
+  pub verify-only : (whole : Transcript) → IsTranscript state asked input whole → whole ≡ verify_transcript state
+  verify-only whole is = subst (λ a. IsTranscriptBy a asked state input whole) verifies is
+
+  verify-front : (old new : World) → SaysFrontOf (verify_transcript state).turn.text old.said new.said → SaysFront asked state input old new
+  verify-front old new says whole is = subst (λ (t : Transcript). SaysFrontOf t.turn.text old.said new.said) (sym (verify-only whole is)) says
+
+  -- a check ends as a job that is one
+  pub verify-ends : (T : Type 0) (left : List ℕ) (old new : World) (result : Result T Ended) → left ≡ input → EndsVerify state old new result → EndsJob asked state input left old new result
+  verify-ends T left old new (Ok done) same says = (
+    record { whole = verify_transcript state; is = verify-is; ends = record { end = refl; said = says.0; holds = says.1 } },
+    subst (λ a. LeavesInput a input left) (sym verifies) same,
+  )
+  verify-ends T left old new (Err ends.Memory) same says = verify-front old new says
+  verify-ends T left old new (Err ends.Disk) same says = verify-front old new says
+  verify-ends T left old new (Err ends.Sink) same says = verify-front old new says
+  verify-ends T left old new (Err ends.Source) same says = absurd says
+  verify-ends T left old new (Err (ends.Input fault)) same says = absurd says
+  verify-ends T left old new (Err (ends.Limit fault)) same says = absurd says
+  verify-ends T left old new (Err (ends.Store fault)) same says = absurd says
+  verify-ends T left old new (Err ends.Done) same says = absurd says
+  verify-ends T left old new (Err ends.Words) same says = absurd says
+
 -- a call over an engine ends by no source and by no input
 pub engine-unread : (readable : Bool) (old new : World) (T : Type 0) (result : Result T Ended) → IfErr result (IsEngineEnd readable old new) → IfErr result IsUnreadEnd
 engine-unread readable old new T (Ok done) cause = tt
@@ -190,12 +220,14 @@ module _ (asked : Asked) (state : Contents) (input : List ℕ) (old was new : Wo
   read-from : (action : Action) (left : List ℕ) → SaysWhatWasRead action state input left was new → SaysWhatWasRead action state input left old new
   read-from Run left says = record { read = says.read; came = says.came; said = says.said ∙ ap (λ s. s ++ (script state (cut says.read).lines).text) same; holds = says.holds }
   read-from Load left says = (says.0 ∙ same, says.1)
+  read-from Verify left says = absurd says
   read-from Make left says = absurd says
   read-from Upgrade left says = absurd says
 
   room-from : (action : Action) → StopsForRoom action asked state input was new → StopsForRoom action asked state input old new
   room-from Run stops = subst (λ s. StopsAtLine state (script_lines input) s new) same stops
   room-from Load stops = (stops.0, stops.1, subst (λ s. StopsAtBatch state 0 0 (steps asked.batch [] stops.0) s new) same stops.2)
+  room-from Verify stops = absurd stops
   room-from Make stops = subst (λ s. StopsAtBatch state 0 0 (make_steps asked.batch asked.from asked.count) s new) same stops
   room-from Upgrade stops = absurd stops
 

@@ -13,3 +13,4 @@ pub mod Scripts
 pub mod Settled
 pub mod Transcripts
 pub mod Upgrades
+pub mod Verified

@@ -17,7 +17,7 @@ use Rattle.run_outcome.specs.declared.ended.Ended.{Ended}
 use Rattle.run_outcome.specs.declared.ended.Ended.TheVariants as ends
 use Rattle.run_outcome.specs.declared.ended.LimitFault.TheVariants as limits
 use Rattle.command_words.specs.declared.job.Action.{Action}
-use Rattle.command_words.specs.declared.job.Action.TheVariants.{Run, Load, Make, Upgrade}
+use Rattle.command_words.specs.declared.job.Action.TheVariants.{Run, Load, Verify, Make, Upgrade}
 use Rattle.irtree_top.specs.Prefix.{HoldsAcked, state_after_updates}
 use Rattle.irtree_top.specs.Run.{EndsBy, EndsJob, HoldsPrefix, IsNear, SaysFront, SaysWhatWasRead, StopsForRoom, acked}
 use Rattle.irtree_top.specs.Transcript.{IsTranscript}
@@ -52,6 +52,7 @@ module _ (asked : Asked) (state : Contents) (input : List ℕ) (old mid new : Wo
     settled-read : (action : Action) (left : List ℕ) → SaysWhatWasRead action state input left old mid → SaysWhatWasRead action state input left old new
     settled-read Run left says = record { read = says.read; came = says.came; said = same ∙ says.said; holds = stands _ says.holds }
     settled-read Load left says = (same ∙ says.0, stands state says.1)
+    settled-read Verify left says = absurd says
     settled-read Make left says = absurd says
     settled-read Upgrade left says = absurd says
 
@@ -76,6 +77,7 @@ module _ (asked : Asked) (state : Contents) (input : List ℕ) (old mid new : Wo
     settled-room : (action : Action) → StopsForRoom action asked state input old mid → StopsForRoom action asked state input old new
     settled-room Run stops = line-settled state (script_lines input) old.said stops
     settled-room Load stops = (stops.0, stops.1, batch-settled state 0 0 (steps asked.batch [] stops.0) old.said stops.2)
+    settled-room Verify stops = absurd stops
     settled-room Make stops = batch-settled state 0 0 (make_steps asked.batch asked.from asked.count) old.said stops
     settled-room Upgrade stops = absurd stops
 

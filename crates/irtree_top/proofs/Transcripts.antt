@@ -13,8 +13,9 @@ use Rattle.run_outcome.specs.Turn.{Transcript}
 use Rattle.run_outcome.specs.Load.{load_max, IsTaken, load_transcript}
 use Rattle.run_outcome.specs.Script.{script_transcript}
 use Rattle.load_run.specs.Making.{make_transcript}
+use Rattle.irtree_top.specs.Verify.{verify_transcript}
 use Rattle.command_words.specs.declared.job.Action.{Action}
-use Rattle.command_words.specs.declared.job.Action.TheVariants.{Run, Load, Make, Upgrade}
+use Rattle.command_words.specs.declared.job.Action.TheVariants.{Run, Load, Verify, Make, Upgrade}
 use Rattle.irtree_top.specs.Transcript.{IsTranscriptBy, IsTranscript}
 use Rattle.command_words.specs.Job.{Asked}
 
@@ -112,6 +113,7 @@ load-some law asked state input =
 one-by : OutcomeIsOne → (action : Action) (asked : Asked) (state : Contents) (input : List ℕ) (one other : Transcript) → IsTranscriptBy action asked state input one → IsTranscriptBy action asked state input other → one ≡ other
 one-by law Run asked state input one other is also = is ∙ sym also
 one-by law Load asked state input one other is also = load-one law asked state input one other is also
+one-by law Verify asked state input one other is also = is ∙ sym also
 one-by law Make asked state input one other is also = is ∙ sym also
 one-by law Upgrade asked state input one other is also = absurd is
 
@@ -123,6 +125,7 @@ transcript-one law state asked input one other is also = one-by law asked.action
 some-by : OutcomeIsSome → (action : Action) (asked : Asked) (state : Contents) (input : List ℕ) → action ≢ Upgrade → (whole : Transcript) × IsTranscriptBy action asked state input whole
 some-by law Run asked state input other = (script_transcript state input, refl)
 some-by law Load asked state input other = load-some law asked state input
+some-by law Verify asked state input other = (verify_transcript state, refl)
 some-by law Make asked state input other = (make_transcript asked.batch asked.from asked.count state, refl)
 some-by law Upgrade asked state input other = absurd (other refl)
 

@@ -28,7 +28,7 @@ use Rattle.irtree_top.proofs.Fronts.{none-said}
 -- ---- what is asked for
 
 -- words ask for one thing
-asked-same : (words : List (List ℕ)) (one other : Asked) → reading words ≡ Ok one → AskFor words other → one ≡ other
+pub asked-same : (words : List (List ℕ)) (one other : Asked) → reading words ≡ Ok one → AskFor words other → one ≡ other
 asked-same words one other reads asks = cc
 
 -- where that is an upgrade they ask for no job

@@ -3,3 +3,4 @@ pub mod Prefix
 pub mod Run
 pub mod Transcript
 pub mod Upgrade
+pub mod Verify

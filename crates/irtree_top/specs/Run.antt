@@ -34,7 +34,7 @@ use Rattle.run_outcome.specs.declared.ended.StoreFault.{StoreFault}
 use Rattle.run_outcome.specs.declared.ended.StoreFault.TheVariants as stores
 use Rattle.script_run.specs.Standing.{SaysRepliesOf}
 use Rattle.command_words.specs.declared.job.Action.{Action}
-use Rattle.command_words.specs.declared.job.Action.TheVariants.{Run, Load, Make, Upgrade}
+use Rattle.command_words.specs.declared.job.Action.TheVariants.{Run, Load, Verify, Make, Upgrade}
 use Rattle.irtree_top.specs.Transcript.{IsTranscript}
 use Rattle.command_words.specs.Job.{Asked}
 
@@ -49,18 +49,20 @@ pub record EndsBy (wanted : End) (asked : Asked) (state : Contents) (input : Lis
   pub ends : EndsAs wanted whole old new
 
 -- What was said where the source failed, and what the image stands for: in a script the replies of what was read, and the state after
--- these lines; in a load nothing, and the state at the start. A make and an upgrade read no source.
+-- these lines; in a load nothing, and the state at the start. The others read no source.
 abbrev pub SaysWhatWasRead : Action → Contents → List ℕ → List ℕ → World → World → Type 0
 SaysWhatWasRead Run state input left old new = SaysRepliesOf state input left old new
 SaysWhatWasRead Load state input left old new = SaysNothingYet state old new
+SaysWhatWasRead Verify state input left old new = ⊥
 SaysWhatWasRead Make state input left old new = ⊥
 SaysWhatWasRead Upgrade state input left old new = ⊥
 
 -- Where no page was left: what comes before the reply to an update, or before a batch's line, was said whole and nothing else, and the
--- image stands for the state before it. An upgrade makes no update.
+-- image stands for the state before it. A check and an upgrade make no update.
 abbrev pub StopsForRoom : Action → Asked → Contents → List ℕ → World → World → Type 0
 StopsForRoom Run asked state input old new = StopsAtLine state (script_lines input) old.said new
 StopsForRoom Load asked state input old new = (items : List Item) × IsTaken asked.text input (Ok items) × StopsAtBatch state 0 0 (steps asked.batch [] items) old.said new
+StopsForRoom Verify asked state input old new = ⊥
 StopsForRoom Make asked state input old new = StopsAtBatch state 0 0 (make_steps asked.batch asked.from asked.count) old.said new
 StopsForRoom Upgrade asked state input old new = ⊥
 
@@ -74,6 +76,7 @@ StopsAtLimit limits.NoRoom asked state input old new = StopsForRoom asked.action
 abbrev pub acked : Action → List ℕ → ℕ
 acked Run spoken = acked_by_script spoken
 acked Load spoken = acked_by_load spoken
+acked Verify spoken = 0
 acked Make spoken = acked_by_load spoken
 acked Upgrade spoken = 0
 
@@ -81,6 +84,7 @@ acked Upgrade spoken = 0
 abbrev pub IsNear : Action → ℕ → ℕ → ℕ → ℕ → Type 0
 IsNear Run batch some acked all = IsNearInScript some acked all
 IsNear Load batch some acked all = IsNearInLoad batch some acked all
+IsNear Verify batch some acked all = some ≡ 0
 IsNear Make batch some acked all = IsNearInLoad batch some acked all
 IsNear Upgrade batch some acked all = some ≡ 0
 
@@ -94,6 +98,7 @@ HoldsPrefix asked state input old image said =
 abbrev pub LeavesInput : Action → List ℕ → List ℕ → Type 0
 LeavesInput Run input left = left ≡ []
 LeavesInput Load input left = left ≡ []
+LeavesInput Verify input left = left ≡ input
 LeavesInput Make input left = left ≡ input
 LeavesInput Upgrade input left = left ≡ input
 
@@ -162,6 +167,7 @@ pub record HasRunEnd {T : Type 0} (readable : Bool) (source_old source_new : ℕ
 abbrev pub IsInputEnd : Action → Option (List ℕ) → List ℕ → InputFault → Type 0
 IsInputEnd Run only input fault = IsScriptInput input fault
 IsInputEnd Load only input fault = IsTaken only input (Err fault)
+IsInputEnd Verify only input fault = ⊥
 IsInputEnd Make only input fault = ⊥
 IsInputEnd Upgrade only input fault = ⊥
 
@@ -169,14 +175,16 @@ IsInputEnd Upgrade only input fault = ⊥
 abbrev pub IsWholeInput : Action → Option (List ℕ) → List ℕ → Type 0
 IsWholeInput Run only input = FitsScript input
 IsWholeInput Load only input = GivesItems only input
+IsWholeInput Verify only input = Unit {0}
 IsWholeInput Make only input = Unit {0}
 IsWholeInput Upgrade only input = Unit {0}
 
 -- the limits that end an action: a script ends for want of room alone, since it says the limits of the map and goes on, and an upgrade,
--- which adds no place
+-- which adds no place; a check ends by none
 abbrev pub IsLimitOf : Action → LimitFault → Type 0
 IsLimitOf Run fault = fault ≡ limits.NoRoom
 IsLimitOf Load fault = Unit {0}
+IsLimitOf Verify fault = ⊥
 IsLimitOf Make fault = Unit {0}
 IsLimitOf Upgrade fault = fault ≡ limits.NoRoom
 
@@ -184,6 +192,7 @@ IsLimitOf Upgrade fault = fault ≡ limits.NoRoom
 abbrev pub most_updates : Action → ℕ → ℕ
 most_updates Run batch = 1
 most_updates Load batch = batch
+most_updates Verify batch = 0
 most_updates Make batch = batch
 most_updates Upgrade batch = 0
 
@@ -196,6 +205,7 @@ LacksRoomFor action batch room image = LacksRoomIn (most_updates action batch) r
 abbrev pub ReachesLimitBy : Action → Asked → LimitFault → ℕ → ℕ → List ℕ → Type 0
 ReachesLimitBy Run asked fault live number input = fault ≡ limits.NoRoom
 ReachesLimitBy Load asked fault live number input = ReachesLimit fault live number asked.text input
+ReachesLimitBy Verify asked fault live number input = ⊥
 ReachesLimitBy Make asked fault live number input = ReachLimit asked.count fault live number
 ReachesLimitBy Upgrade asked fault live number input = fault ≡ limits.NoRoom
 
@@ -247,7 +257,15 @@ IsCompleteEnd action (ends.Input fault) = Unit {0}
 IsCompleteEnd action (ends.Limit fault) = IsLimitOf action fault
 IsCompleteEnd action _ = ⊥
 
--- an end that a make may have: neither its source nor an input ends it
+-- an action that reads no input
+abbrev pub ReadsNothing : Action → Type 0
+ReadsNothing Run = ⊥
+ReadsNothing Load = ⊥
+ReadsNothing Verify = Unit {0}
+ReadsNothing Make = Unit {0}
+ReadsNothing Upgrade = Unit {0}
+
+-- an end that such an action may have: neither its source nor an input ends it
 abbrev pub IsUnreadEnd : Ended → Type 0
 IsUnreadEnd ends.Words = ⊥
 IsUnreadEnd ends.Source = ⊥

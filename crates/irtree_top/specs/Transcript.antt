@@ -8,8 +8,9 @@ use Rattle.run_outcome.specs.Script.{script_transcript}
 use Rattle.run_outcome.specs.Load.{IsTaken, load_transcript}
 use Rattle.load_run.specs.Making.{make_transcript}
 use Rattle.command_words.specs.declared.job.Action.{Action}
-use Rattle.command_words.specs.declared.job.Action.TheVariants.{Run, Load, Make, Upgrade}
+use Rattle.command_words.specs.declared.job.Action.TheVariants.{Run, Load, Verify, Make, Upgrade}
 use Rattle.command_words.specs.Job.{Asked}
+use Rattle.irtree_top.specs.Verify.{verify_transcript}
 
 -- The transcript of an action, with the batch, the property, the seed and the count of what is asked for. An upgrade has none: what it says
 -- goes by the version of the store (`Upgrade.antt`).
@@ -17,6 +18,7 @@ abbrev pub IsTranscriptBy : Action → Asked → Contents → List ℕ → Trans
 IsTranscriptBy Run asked state input whole = whole ≡ script_transcript state input
 IsTranscriptBy Load asked state input whole =
     (taken : Result (List Item) InputFault) × IsTaken asked.text input taken × (whole ≡ load_transcript asked.batch state taken)
+IsTranscriptBy Verify asked state input whole = whole ≡ verify_transcript state
 IsTranscriptBy Make asked state input whole = whole ≡ make_transcript asked.batch asked.from asked.count state
 IsTranscriptBy Upgrade asked state input whole = ⊥
 

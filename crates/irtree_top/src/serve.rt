@@ -4,21 +4,25 @@ ghost use Rattle.disk_model.specs.World.{HasDiskCause, LeavesOnly, LeavesOnlySee
 ghost use Rattle.place_values.specs.State.{Contents};
 ghost use Rattle.irtree_engine.specs.Holding.{HoldsState, IsOpenable, LeavesState};
 ghost use Rattle.irtree_engine.specs.Queries.{contents_held};
+ghost use Rattle.irtree_engine.specs.Verified.{HoldsSome};
+ghost use Rattle.page_face.specs.declared.fault.Damage.{Damage};
 ghost use Rattle.run_outcome.specs.Asking.{AreAsking};
 ghost use Rattle.page_journal.specs.Record.{IsReady};
 ghost use Rattle.run_outcome.specs.Causes.{GoesOn, HasJobEnd};
 ghost use Rattle.run_outcome.specs.Reading.{AreReading, IsMetIn};
 ghost use Rattle.run_outcome.specs.Script.{script_lines};
-ghost use Rattle.irtree_top.specs.Run.{EndsJob, HasRunEnd, HoldsPrefix, IsLimitReached, IsInputEnd, IsLimitOf, IsUnreadEnd, IsWholeInput, LacksRoomFor, LeavesAlike, LeavesAlone, LeavesAtRest, LeavesInput, NamesBrokenRule, OpensFew, ReachesLimitBy, RestsIfOpened};
+ghost use Rattle.irtree_top.specs.Run.{EndsJob, HasRunEnd, HoldsPrefix, IsLimitReached, IsInputEnd, IsLimitOf, IsUnreadEnd, IsWholeInput, LacksRoomFor, LeavesAlike, LeavesAlone, LeavesAtRest, LeavesInput, NamesBrokenRule, OpensFew, ReachesLimitBy, ReadsNothing, RestsIfOpened};
+ghost use Rattle.irtree_top.specs.Verify.{SaysBroken, TellsBroken};
 ghost use Rattle.command_words.specs.Job.{asked_of};
 
+use crate::verifying::run_verify;
 use crate::{transcript_is_one, transcript_is_some};
 use command_words::{Action, Job};
 use disk_model::{Failed, Source, Station};
 use geojson_points::outcome_is_one;
 use irtree_engine::{Engine, EngineFault, recover_superblock};
 use load_run::{run_load, run_make};
-use run_outcome::{Ended, InputFault, LimitFault, ended_by};
+use run_outcome::{Ended, InputFault, LimitFault, StoreFault, ended_by};
 use script_run::run_script;
 use split_policy::SplitPolicy;
 use std::alloc::Global;
@@ -54,11 +58,14 @@ fn act<'d, S: Source, T: Station>(
         → AreAsking (script_lines (S.left source.old)) → OnOk result (OpensFew state (S.left source.old) (T.world engine.old.store.disk.now) (T.world engine.new.store.disk.now)) }
     ensures met { job.now.action ≡ Action.Run → IsTrue S.readable → IsTrue T.readable → AreReading (script_lines (S.left source.old))
         → IfErr result (IsMetIn (T.world engine.old.store.disk.now).seen) }
+    ensures verified { job.now.action ≡ Action.Verify → IsTrue T.readable → OnOk result (HoldsSome (T.world engine.old.store.disk.now).seen) }
+    ensures named { job.now.action ≡ Action.Verify → IsTrue T.readable → (damage : Damage) → IsErrOf result (Ended.Store (StoreFault.Damaged damage))
+        → SaysBroken damage (T.world engine.old.store.disk.now) (T.world engine.new.store.disk.now) }
     ensures goes_on { GoesOn engine.new.stopped result }
     ensures cause { HasJobEnd T.readable (S.faults source.old) (S.faults source.new) (T.world engine.old.store.disk.now) (T.world engine.new.store.disk.now) result }
     ensures input { IsTrue S.readable → (fault : InputFault) → IsErrOf result (Ended.Input fault) → IsInputEnd job.now.action (option_map string_bytes job.now.text) (S.left source.old) fault }
     ensures whole { IsTrue S.readable → OnOk result (LeavesInput job.now.action (S.left source.old) (S.left source.new) × IsWholeInput job.now.action (option_map string_bytes job.now.text) (S.left source.old)) }
-    ensures unread { job.now.action ≡ Action.Make → (source.new ≡ source.old) × IfErr result IsUnreadEnd }
+    ensures unread { ReadsNothing job.now.action → (source.new ≡ source.old) × IfErr result IsUnreadEnd }
     ensures limits { (fault : LimitFault) → IsErrOf result (Ended.Limit fault) → IsLimitOf job.now.action fault }
     ensures reached { IsTrue S.readable → (fault : LimitFault) → IsErrOf result (Ended.Limit fault)
         → ReachesLimitBy job.now.action (asked_of job.now) fault engine.old.store.current.head.live engine.old.store.current.head.number (S.left source.old) }
@@ -72,6 +79,7 @@ fn act<'d, S: Source, T: Station>(
             let only = property_of(job);
             run_load(alloc, job.batch, only, source, engine)
         }
+        Action::Verify => run_verify(alloc, engine),
         Action::Make => run_make(alloc, job.batch, job.from, job.count, engine),
         Action::Upgrade => unreachable!(),
     }
@@ -122,11 +130,14 @@ fn serve<'d, S: Source, T: Station>(
         → AreAsking (script_lines (S.left source.old)) → OnOk result (OpensFew state (S.left source.old) (T.world engine.old.store.disk.now) (T.world engine.new.store.disk.now)) }
     ensures met { job.now.action ≡ Action.Run → IsTrue S.readable → IsTrue T.readable → AreReading (script_lines (S.left source.old))
         → IfErr result (IsMetIn (T.world engine.old.store.disk.now).seen) }
+    ensures verified { job.now.action ≡ Action.Verify → IsTrue T.readable → OnOk result (HoldsSome (T.world engine.old.store.disk.now).seen) }
+    ensures named { job.now.action ≡ Action.Verify → IsTrue T.readable → (damage : Damage) → IsErrOf result (Ended.Store (StoreFault.Damaged damage))
+        → SaysBroken damage (T.world engine.old.store.disk.now) (T.world engine.new.store.disk.now) }
     ensures at_rest { IsTrue T.readable → LeavesAtRest (T.world engine.new.store.disk.now) result }
     ensures cause { HasJobEnd T.readable (S.faults source.old) (S.faults source.new) (T.world engine.old.store.disk.now) (T.world engine.new.store.disk.now) result }
     ensures input { IsTrue S.readable → (fault : InputFault) → IsErrOf result (Ended.Input fault) → IsInputEnd job.now.action (option_map string_bytes job.now.text) (S.left source.old) fault }
     ensures whole { IsTrue S.readable → OnOk result (LeavesInput job.now.action (S.left source.old) (S.left source.new) × IsWholeInput job.now.action (option_map string_bytes job.now.text) (S.left source.old)) }
-    ensures unread { job.now.action ≡ Action.Make → (source.new ≡ source.old) × IfErr result IsUnreadEnd }
+    ensures unread { ReadsNothing job.now.action → (source.new ≡ source.old) × IfErr result IsUnreadEnd }
     ensures limits { (fault : LimitFault) → IsErrOf result (Ended.Limit fault) → IsLimitOf job.now.action fault }
     ensures reached { IsTrue S.readable → (fault : LimitFault) → IsErrOf result (Ended.Limit fault)
         → ReachesLimitBy job.now.action (asked_of job.now) fault engine.old.store.current.head.live engine.old.store.current.head.number (S.left source.old) }
@@ -165,13 +176,16 @@ pub(crate) fn run_job<S: Source, T: Station>(
         → AreAsking (script_lines (S.left source.old)) → OnOk result (OpensFew state (S.left source.old) (T.world station.old) (T.world station.new)) }
     ensures broken_rule { job.now.action ≡ Action.Run → IsTrue S.readable → IsTrue T.readable → AreReading (script_lines (S.left source.old))
         → IfErr result (NamesBrokenRule (T.world station.old).seen) }
+    ensures verified { job.now.action ≡ Action.Verify → IsTrue T.readable → OnOk result (HoldsSome (T.world station.old).seen) }
+    ensures named { job.now.action ≡ Action.Verify → IsTrue T.readable → (damage : Damage) → IsErrOf result (Ended.Store (StoreFault.Damaged damage))
+        → TellsBroken damage (T.world station.old) (T.world station.new) }
     ensures at_rest { IsTrue T.readable → RestsIfOpened (T.world station.new) result }
     ensures unopened { IsTrue T.readable → ¬ IsOpenable (T.world station.old).seen → LeavesAlike (T.world station.old) (T.world station.new) }
     ensures cause { HasRunEnd T.readable (S.faults source.old) (S.faults source.new) (T.world station.old) (T.world station.new) result }
     ensures left_alone { IsTrue T.readable → IfErr result (λ end. LeavesAlone end (T.world station.old) (T.world station.new)) }
     ensures input { IsTrue S.readable → (fault : InputFault) → IsErrOf result (Ended.Input fault) → IsInputEnd job.now.action (option_map string_bytes job.now.text) (S.left source.old) fault }
     ensures whole { IsTrue S.readable → OnOk result (LeavesInput job.now.action (S.left source.old) (S.left source.new) × IsWholeInput job.now.action (option_map string_bytes job.now.text) (S.left source.old)) }
-    ensures unread { job.now.action ≡ Action.Make → (source.new ≡ source.old) × IfErr result IsUnreadEnd }
+    ensures unread { ReadsNothing job.now.action → (source.new ≡ source.old) × IfErr result IsUnreadEnd }
     ensures limits { (fault : LimitFault) → IsErrOf result (Ended.Limit fault) → IsLimitOf job.now.action fault }
     ensures reached { IsTrue S.readable → IsTrue T.readable → (fault : LimitFault) → IsErrOf result (Ended.Limit fault)
         → IsLimitReached fault (asked_of job.now) (S.left source.old) (T.world station.old).seen }

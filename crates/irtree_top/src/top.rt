@@ -6,13 +6,15 @@ ghost use Rattle.place_values.specs.State.{Contents};
 ghost use Rattle.store_upgrade.specs.Version1.{StandsVersion1};
 ghost use Rattle.irtree_engine.specs.Holding.{HoldsState, IsOpenable};
 ghost use Rattle.irtree_engine.specs.Upgrades.{LacksRoomToCarry, StandsEither};
+ghost use Rattle.irtree_engine.specs.Verified.{HoldsSome};
 ghost use Rattle.run_outcome.specs.Asking.{AreAsking};
 ghost use Rattle.run_outcome.specs.Reading.{AreReading};
 ghost use Rattle.run_outcome.specs.Script.{script_lines};
 ghost use Rattle.run_outcome.specs.Turn.{Transcript, Done, Input};
-ghost use Rattle.irtree_top.specs.Run.{EndsBy, HoldsPrefix, IsLimitReached, IsBehindOpening, IsBroken, IsBrokenRule, IsCompleteEnd, IsInputEnd, IsLimitOf, IsSettled, IsUnreadEnd, IsWholeInput, LacksRoomFor, LeavesAlike, LeavesAlone, LeavesInput, OpensFew, SaysFront, SaysWhatWasRead, StopsAtLimit};
+ghost use Rattle.irtree_top.specs.Run.{EndsBy, HoldsPrefix, IsLimitReached, IsBehindOpening, IsBroken, IsBrokenRule, IsCompleteEnd, IsInputEnd, IsLimitOf, IsSettled, IsUnreadEnd, IsWholeInput, LacksRoomFor, LeavesAlike, LeavesAlone, LeavesInput, OpensFew, ReadsNothing, SaysFront, SaysWhatWasRead, StopsAtLimit};
 ghost use Rattle.irtree_top.specs.Transcript.{IsTranscript};
 ghost use Rattle.irtree_top.specs.Upgrade.{AskForJob, AskForNoUpgrade, AskForUpgrade, EndsUpgrade, IsBrokenForUpgrade, IsCompleteUpgrade, IsOpenableEither, IsUpgradeEnd, IsUpgradeOpened, LeavesAloneByUpgrade, LeavesPresent, LeavesUpgraded, SaysFrontOfUpgrade};
+ghost use Rattle.irtree_top.specs.Verify.{TellsBroken};
 ghost use Rattle.command_words.specs.Job.{Asked, AskFor, AreAccepted};
 
 use crate::serve::run_job;
@@ -30,15 +32,16 @@ use std::alloc::Global;
 ///
 /// The words are read by [`read_words`]; the store is the station's, and its name isn't looked at. `run` is a script, a line at a time.
 /// `load` stores the places of a GeoJSON text, which is read whole before anything is printed. `make` stores the places of a seed,
-/// queries for some of them, and reads nothing. `upgrade` carries a store of version 1 over to version 2, and reads nothing; the other
-/// three have a transcript.
+/// queries for some of them, and reads nothing. `verify` decides whether the store is whole, and reads nothing. `upgrade` carries a store
+/// of version 1 over to version 2, and reads nothing; the other four have a transcript.
 ///
 /// The cache has as many pages as the words give. The policy splits the tree's full nodes. It is the caller's, who makes it by the name in
 /// the words ([`Job`](crate::Job)'s `policy`), and it is dropped in the end, also if the words are refused. No clause depends on the cache
 /// or the policy: the transcript and its states are the same whatever they are. Returns how the run ended:
 ///
 /// - `Done` if the input was read to its end, and a script isn't too long or a text gives items. Also if a make is through, with the source
-///   as it was. The whole transcript was printed, and the image holds its last state. After an upgrade the line `upgraded N` was printed,
+///   as it was. The whole transcript was printed, and the image holds its last state. After a check the line `whole` was printed, and the
+///   image holds a state. After an upgrade the line `upgraded N` was printed,
 ///   with the number of places, or `version 2` if the store was of version 2; the image holds its state by version 2.
 /// - `Words` if the words are refused for another cause than memory. Nothing was read, written or printed.
 /// - `Input` if a script is too long, or a text gives no items, for its first offence. The whole transcript was printed: of a script the
@@ -52,12 +55,13 @@ use std::alloc::Global;
 /// - `Store` if the image at the start is no well-formed store. `NotAStore` if its page 0 is foreign; `Version1` if its page 0 begins with
 ///   the magic of version 1; `BadJournal` with the first byte of its journal that breaks a rule. `Damaged` with the rule Head at page 0
 ///   only if page 0 breaks it, or with another rule that is met after the opening. In a script without updates it names a page and a rule
-///   that it breaks, as a query or a look at a key met it. A store that is refused as it is opened is left alone. With a bad journal it is
+///   that it breaks, as a query or a look at a key met it. A check that finds a page that breaks a rule names both, and has printed the
+///   line `broken PAGE RULE`. A store that is refused as it is opened is left alone. With a bad journal it is
 ///   as it was. Else its journal is recovered, and it has the pages that it held before. An upgrade ends so if the image holds a state by
 ///   neither version: `Damaged` also if page 0 begins with the magic of version 1 and breaks the rule Head, and `Version1` never. It leaves
 ///   the store as a store that is refused as it is opened, whatever is damaged.
-/// - `Source` if the source fails, after the replies to all lines that were read, and in a load with nothing printed; never in a make or an
-///   upgrade.
+/// - `Source` if the source fails, after the replies to all lines that were read, and in a load with nothing printed; never in a make, a
+///   check or an upgrade.
 /// - `Disk`, `Sink` and `Memory` if one of them fails, after a prefix of the transcript's text, or of an upgrade's line.
 ///
 /// A fault of the source, the disk or the sink is reported as such, whatever else was met. No other end comes after one except `Disk`, if
@@ -135,8 +139,14 @@ pub fn run<S: Source, T: Station>(
     // No page is left for an update only if the image has few free pages at the end, and the disk has room for few more.
     ensures lacks { (asked : Asked) → AskForJob (map string_bytes words.now) asked → IsTrue T.readable → result ≡ Ended.Limit LimitFault.NoRoom
         → LacksRoomFor asked.action asked.batch (T.room_of station.new) (T.world station.new).seen }
-    // A make reads nothing, and ends by no input.
-    ensures unread { (asked : Asked) → AskFor (map string_bytes words.now) asked → asked.action ≡ Action.Make → (source.new ≡ source.old) × IsUnreadEnd result }
+    // A make, a check and an upgrade read nothing, and end by no input.
+    ensures unread { (asked : Asked) → AskFor (map string_bytes words.now) asked → ReadsNothing asked.action → (source.new ≡ source.old) × IsUnreadEnd result }
+
+    // A check of a store: `whole` is printed only if the image holds a state. What is named otherwise is broken there, and was printed.
+    ensures verified { (asked : Asked) → AskFor (map string_bytes words.now) asked → asked.action ≡ Action.Verify → IsTrue T.readable → result ≡ Ended.Done
+        → HoldsSome (T.world station.old).seen }
+    ensures named { (asked : Asked) → AskFor (map string_bytes words.now) asked → asked.action ≡ Action.Verify → IsTrue T.readable
+        → (damage : Damage) → result ≡ Ended.Store (StoreFault.Damaged damage) → TellsBroken damage (T.world station.old) (T.world station.new) }
 
     // An upgrade of a store of version 1: the line with the number of its places was printed, and the image holds its state.
     ensures upgraded { (asked : Asked) → AskForUpgrade (map string_bytes words.now) asked → IsTrue T.readable

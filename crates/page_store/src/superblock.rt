@@ -184,8 +184,8 @@ impl Superblock {
         }
     }
 
-    // Whether each field is in its range, in a store of version 2.
-    fn is_in_range(&self) -> bool
+    /// Whether each field is in its range, in a store of version 2.
+    pub fn is_in_range(&self) -> bool
         ensures { IsTrue result ↔ IsInRange self.now }
     {
         let Head {

@@ -1,4 +1,5 @@
 pub mod Ascents
+pub mod Columns
 pub mod Joined
 pub mod Listed
 pub mod Named

@@ -1,16 +1,24 @@
--- The rows of a map, gone through in the order of their keys.
-use Rattle.std.proofs.Common.{◌≡◌, ◌⊎◌, ℕ, ◌+◌, ◌^◌, ◌<◌, ◌≤◌, List, [], ◌∷◌, Option, Some, None, Bool, true, false, arith, refl, sym, ap, ◌∙◌, subst, inl, inr, ⊎_elim}
-use Rattle.std.specs.Prelude.{if◌then◌else◌, ◌==◌}
-use Rattle.std.proofs.lemmas.Bool.{cases_lt, cases_Bool, eqb-true, lt-ltb, le-ltb, false≢true}
+-- The rows of a map, each of which is named or isn't.
+use Rattle.std.proofs.Common.{◌≡◌, ◌⊎◌, ℕ, ◌+◌, ◌^◌, ◌<◌, ◌≤◌, List, [], ◌∷◌, Option, Some, None, Bool, true, false, get_or, take, arith, refl, sym, ap, ◌∙◌, subst, inl, inr, ⊎_elim}
+use Rattle.std.specs.Prelude.{if◌then◌else◌, ◌==◌, option_map, IfNone, IfSome, MatchOption}
+use Rattle.std.specs.List.{All, Contains}
+use Rattle.std.proofs.lemmas.Bool.{cases_lt, cases_Bool, eqb-true, false≢true}
+use Rattle.std.proofs.lemmas.List.{get_or_default, take_all}
+use Rattle.std.proofs.lemmas.List.Elements.{All-head, All-more, All-tail, Contains-get_or}
 use Rattle.page_face.specs.FreeList.{are_zero}
+use Rattle.page_face.specs.Nodes.{count_of}
 use Rattle.page_face.specs.declared.fault.Damage.{Damage}
-use Rattle.page_face.specs.declared.fault.Rule.TheVariants.{Row as WrongRow}
-use Rattle.btree_nodes.specs.Rows.{Row, IsWithin, lookup, first_from}
+use Rattle.btree_nodes.specs.Nodes.{rows_in}
+use Rattle.btree_nodes.specs.Rows.{Row, IsWithin, lookup}
+use Rattle.btree_nodes.proofs.Spans.{no_row}
+use Rattle.btree_nodes.proofs.Spots.{length-rows_in}
+use Rattle.paged_map.proofs.Rows.{lookup-at}
+use Rattle.rtree_nodes.specs.Stock.{rows_form}
+use Rattle.node_rows.specs.declared.key.RowKey.{RowKey}
 use Rattle.node_rows.specs.Rows.{key_of, bytes_of, byte_in, AreFilled, IsFilled}
 use Rattle.node_rows.proofs.Bytes.{node-same, bytes-small, bytes-large}
-use Rattle.row_check.specs.Names.{AreNamedBelow, AreNamed, IsUnnamed, row_of}
-use Rattle.row_check.specs.declared.names.WordRow.{WordRow}
-use Rattle.std.specs.Prelude.{option_map}
+use Rattle.row_check.specs.Names.{AreNamed, IsFound, IsNamed, IsStray, IsUnnamed, row_damage, row_of}
+use Rattle.row_check.specs.declared.rows.WordRow.{WordRow}
 
 -- a row that is found is the first one or a later one
 lookup-cases : (key : ℕ) (row : Row) (rows : List Row) (value : List ℕ) → lookup key (row ∷ rows) ≡ Some value → ((row.0 ≡ key) × (row.1 ≡ value)) ⊎ (lookup key rows ≡ Some value)
@@ -19,113 +27,87 @@ lookup-cases key row rows value e = ⊎_elim
     (λ (f : (row.0 == key) ≡ false). inr (ap (λ (b : Bool). if b then Some row.1 else lookup key rows) (sym f) ∙ e))
     (cases_Bool (row.0 == key))
 
--- the keys of rows are within their bounds
-key-within : (low high key : ℕ) (rows : List Row) (value : List ℕ) → IsWithin low high rows → lookup key rows ≡ Some value → low ≤ key
-key-within low high key [] value w e = absurd (cc)
-key-within low high key (row ∷ rows) value w e = ⊎_elim
-    (λ (h : (row.0 ≡ key) × (row.1 ≡ value)). let a = w.0 in let b = h.0 in omega arith)
-    (λ (h : lookup key rows ≡ Some value). let a = w.0 in let r = key-within (row.0 + 1) high key rows value w.1 h in omega arith)
-    (lookup-cases key row rows value e)
+-- a row that is one of those that are named is named
+pub named-all : (rows : List Row) (nodes : ℕ → ℕ) → All (λ (row : Row). IsNamed nodes row.0 row.1) rows → AreNamed rows nodes
+named-all [] nodes named key value held = absurd (cc)
+named-all (row ∷ rows) nodes named key value held = ⊎_elim
+    (λ (h : (row.0 ≡ key) × (row.1 ≡ value)). subst (λ (v : List ℕ). IsNamed nodes key v) h.1 (subst (λ (k : ℕ). IsNamed nodes k row.1) h.0 (All-head (λ (r : Row). IsNamed nodes r.0 r.1) row rows named)))
+    (λ (h : lookup key rows ≡ Some value). named-all rows nodes (All-tail (λ (r : Row). IsNamed nodes r.0 r.1) row rows named) key value h)
+    (lookup-cases key row rows value held)
 
-first-step : (key : ℕ) (row : Row) (rows : List Row) → row.0 < key → first_from key (row ∷ rows) ≡ first_from key rows
-first-step key row rows l = ap (λ (b : Bool). if b then first_from key rows else Some row) (lt-ltb row.0 key l)
+-- a row is named whose node is one of the tree, and which isn't all zeros
+pub named-row : (nodes : ℕ → ℕ) (row : WordRow) → row.key.number < 2 ^ 64 → nodes row.key.node ≡ 1 → are_zero row.bytes ≡ false → IsNamed nodes (row_of row).0 (row_of row).1
+named-row nodes row small node some = record {
+  some = some;
+  node = λ n w e s. ap nodes (node-same n row.key.node w row.key.number s small (sym e)) ∙ node;
+}
 
-first-here : (key : ℕ) (row : Row) (rows : List Row) → key ≤ row.0 → first_from key (row ∷ rows) ≡ Some row
-first-here key row rows l = ap (λ (b : Bool). if b then first_from key rows else Some row) (le-ltb row.0 key l)
+-- one row more of a leaf is named
+pub named-more : (page : List ℕ) (at : ℕ) (nodes : ℕ → ℕ) (row : WordRow) → at < count_of page → get_or (rows_in rows_form page) at (0, []) ≡ row_of row → row.key.number < 2 ^ 64
+    → nodes row.key.node ≡ 1 → are_zero row.bytes ≡ false
+    → All (λ (r : Row). IsNamed nodes r.0 r.1) (take at (rows_in rows_form page)) → All (λ (r : Row). IsNamed nodes r.0 r.1) (take (at + 1) (rows_in rows_form page))
+named-more page at nodes row inside is small node some named =
+    All-more (λ (r : Row). IsNamed nodes r.0 r.1) (rows_in rows_form page) at (0, []) (let long = length-rows_in rows_form page in omega arith) named
+    (subst (λ (r : Row). IsNamed nodes r.0 r.1) (sym is) (named-row nodes row small node some))
 
--- if no row is left, each row is before the key
-none-left : (from key : ℕ) (rows : List Row) (value : List ℕ) → first_from from rows ≡ None → lookup key rows ≡ Some value → key < from
-none-left from key [] value none e = absurd (cc)
-none-left from key (row ∷ rows) value none e = ⊎_elim
-    (λ (l : row.0 < from). ⊎_elim
-    (λ (h : (row.0 ≡ key) × (row.1 ≡ value)). let b = h.0 in omega arith)
-    (λ (h : lookup key rows ≡ Some value). none-left from key rows value (sym (first-step from row rows l) ∙ none) h)
-    (lookup-cases key row rows value e))
-    (λ (l : from ≤ row.0). let f = first-here from row rows l in absurd (cc))
-    (cases_lt row.0 from)
+-- a row of a leaf that isn't named is found
+pub stray-row : (page : List ℕ) (at : ℕ) (nodes : ℕ → ℕ) (row : WordRow) → at < count_of page → get_or (rows_in rows_form page) at (0, []) ≡ row_of row → row.key.number < 2 ^ 64
+    → (nodes row.key.node ≡ 0) ⊎ (are_zero row.bytes ≡ true) → IsStray (rows_in rows_form page) nodes row.key
+stray-row page at nodes row inside is small wrong = record {
+  small = small;
+  value = row.bytes;
+  held = subst (Contains (rows_in rows_form page)) is (Contains-get_or (rows_in rows_form page) at (0, []) (let long = length-rows_in rows_form page in omega arith));
+  wrong = wrong;
+}
 
--- up to the next row there is none but itself
-next-left : (low high from key : ℕ) (rows : List Row) (next : Row) (value : List ℕ) → IsWithin low high rows → first_from from rows ≡ Some next → lookup key rows ≡ Some value → key < next.0 + 1
-    → (key < from) ⊎ ((key ≡ next.0) × (value ≡ next.1))
-next-left low high from key [] next value w is e l = absurd (cc)
-next-left low high from key (row ∷ rows) next value w is e l = ⊎_elim
-    (λ (b : row.0 < from). ⊎_elim
-    (λ (h : (row.0 ≡ key) × (row.1 ≡ value)). let k = h.0 in inl (omega arith))
-    (λ (h : lookup key rows ≡ Some value). next-left (row.0 + 1) high from key rows next value w.1 (sym (first-step from row rows b) ∙ is) h l)
-    (lookup-cases key row rows value e))
-    (λ (b : from ≤ row.0).
-    let f : Some row ≡ Some next = sym (first-here from row rows b) ∙ is in
-    let same : row ≡ next = cc in
-    let k : row.0 ≡ next.0 = ap (λ (r : Row). r.0) same in
+-- all rows of a leaf
+pub named-whole : (page : List ℕ) (count : ℕ) (nodes : ℕ → ℕ) → count ≡ count_of page → All (λ (r : Row). IsNamed nodes r.0 r.1) (take count (rows_in rows_form page)) → All (λ (r : Row). IsNamed nodes r.0 r.1) (rows_in rows_form page)
+named-whole page count nodes e named = subst (All (λ (r : Row). IsNamed nodes r.0 r.1)) (take_all count (rows_in rows_form page) (let long = length-rows_in rows_form page in omega arith)) named
+
+-- among rows in the order of their keys, a row that isn't named is what is looked up at its key
+pub stray-unnamed : (low high : ℕ) (rows : List Row) (nodes : ℕ → ℕ) (key : RowKey) → IsWithin low high rows → IsStray rows nodes key → IsUnnamed rows nodes (row_damage key)
+stray-unnamed low high rows nodes key within stray =
+    let row : Row = (key_of key.node key.number, stray.value) in
+    let at : ℕ = stray.held.0 in
+    let is : get_or rows at no_row ≡ row = get_or_default rows at no_row row stray.held.1 ∙ stray.held.2 in
+    record {
+      node = key.node;
+      word = key.number;
+      small = stray.small;
+      named = refl;
+      value = stray.value;
+      held = subst (λ (r : Row). lookup r.0 rows ≡ Some r.1) is (lookup-at low high rows at within stray.held.1);
+      wrong = stray.wrong;
+    }
+
+-- rows that are named have none that isn't
+pub unnamed-apart : (rows : List Row) (nodes : ℕ → ℕ) (damage : Damage) → IsUnnamed rows nodes damage → AreNamed rows nodes → ⊥
+unnamed-apart rows nodes damage wrong named =
+    let is = named (key_of wrong.node wrong.word) wrong.value wrong.held in
     ⊎_elim
-    (λ (h : (row.0 ≡ key) × (row.1 ≡ value)). inr (sym h.0 ∙ k, sym h.1 ∙ ap (λ (r : Row). r.1) same))
-    (λ (h : lookup key rows ≡ Some value). let r = key-within (row.0 + 1) high key rows value w.1 h in absurd (omega arith))
-    (lookup-cases key row rows value e))
-    (cases_lt row.0 from)
+    (λ (none : nodes wrong.node ≡ 0). let one = is.node wrong.node wrong.word refl wrong.small in omega arith)
+    (λ (zeros : are_zero wrong.value ≡ true). false≢true (sym is.some ∙ zeros))
+    wrong.wrong
 
--- the next row is in the map
-first-held : (low high from : ℕ) (rows : List Row) (next : Row) → IsWithin low high rows → first_from from rows ≡ Some next → lookup next.0 rows ≡ Some next.1
-first-held low high from [] next w is = absurd (cc)
-first-held low high from (row ∷ rows) next w is = ⊎_elim
-    (λ (b : row.0 < from).
-    let r = first-held (row.0 + 1) high from rows next w.1 (sym (first-step from row rows b) ∙ is) in
-    let k = key-within (row.0 + 1) high next.0 rows next.1 w.1 r in
-    let apart : (row.0 == next.0) ≡ false = ⊎_elim (λ (t : (row.0 == next.0) ≡ true). let e = eqb-true row.0 next.0 t in absurd (omega arith)) (λ (f : (row.0 == next.0) ≡ false). f) (cases_Bool (row.0 == next.0)) in
-    ap (λ (c : Bool). if c then Some row.1 else lookup next.0 rows) apart ∙ r)
-    (λ (b : from ≤ row.0).
-    let f : Some row ≡ Some next = sym (first-here from row rows b) ∙ is in
-    let same : row ≡ next = cc in
-    let here : lookup row.0 (row ∷ rows) ≡ Some row.1 = ap (λ (c : Bool). if c then Some row.1 else lookup row.0 rows) (self row.0) in
-    subst (λ (r : Row). lookup r.0 (row ∷ rows) ≡ Some r.1) same here)
-    (cases_lt row.0 from)
-  where
-    self : (n : ℕ) → (n == n) ≡ true
-    self n = ⊎_elim (λ (t : (n == n) ≡ true). t) (λ (f : (n == n) ≡ false). absurd (false≢true (sym f ∙ eq-self n))) (cases_Bool (n == n))
-      where
-        eq-self : (m : ℕ) → (m == m) ≡ true
-        eq-self m = grind arith
+-- what a search finds decides whether all rows are named
+module _ (low high : ℕ) (rows : List Row) (nodes : ℕ → ℕ) (within : IsWithin low high rows) (Whole : Type 0) (Broken : Damage → Type 0) (whole : Whole) where
+  pub found-decides : (stray : Option RowKey) (found : Option Damage) → found ≡ option_map row_damage stray → IsFound rows nodes stray
+      → MatchOption found (Whole × AreNamed rows nodes) (λ damage. Broken damage ⊎ (Whole × IsUnnamed rows nodes damage))
+  found-decides None found e named =
+      subst (λ (o : Option Damage). MatchOption o (Whole × AreNamed rows nodes) (λ damage. Broken damage ⊎ (Whole × IsUnnamed rows nodes damage))) (sym e) (whole, named-all rows nodes named)
+  found-decides (Some key) found e stray =
+      subst (λ (o : Option Damage). MatchOption o (Whole × AreNamed rows nodes) (λ damage. Broken damage ⊎ (Whole × IsUnnamed rows nodes damage))) (sym e)
+      (inr (whole, stray-unnamed low high rows nodes key within stray))
 
--- no row was gone over yet
-pub named-none : (rows : List Row) (nodes : ℕ → ℕ) (end : ℕ) → end ≡ 0 → AreNamedBelow rows nodes end
-named-none rows nodes end e key value h l = absurd (omega arith)
+  pub found-exact : (stray : Option RowKey) (found : Option Damage) → found ≡ option_map row_damage stray → IsFound rows nodes stray → IfSome found (λ damage. Whole × AreNamed rows nodes → ⊥)
+  found-exact None found e named = subst (λ (o : Option Damage). IfSome o (λ damage. Whole × AreNamed rows nodes → ⊥)) (sym e) tt
+  found-exact (Some key) found e stray = subst (λ (o : Option Damage). IfSome o (λ damage. Whole × AreNamed rows nodes → ⊥)) (sym e)
+      (λ both. unnamed-apart rows nodes (row_damage key) (stray-unnamed low high rows nodes key within stray) both.1)
 
--- one row more is named
-pub named-more : (low high from end : ℕ) (rows : List Row) (nodes : ℕ → ℕ) (n w : ℕ) (value : List ℕ) → IsWithin low high rows → w < 2 ^ 64 → first_from from rows ≡ Some (key_of n w, value)
-    → nodes n ≡ 1 → are_zero value ≡ false → AreNamedBelow rows nodes from → end ≡ key_of n w + 1 → AreNamedBelow rows nodes end
-named-more low high from end rows nodes n w value within small is node some named last key v held less =
-    ⊎_elim
-    (λ (l : key < from). named key v held l)
-    (λ (h : (key ≡ key_of n w) × (v ≡ value)). record {
-      some = ap are_zero h.1 ∙ some;
-      node = λ n' w' e s. ap nodes (node-same n' n w' w s small (sym e ∙ h.0)) ∙ node;
-    })
-    (next-left low high from key rows (key_of n w, value) v within is held (omega arith))
-
--- no row is left
-pub named-all : (from : ℕ) (rows : List Row) (nodes : ℕ → ℕ) → first_from from rows ≡ None → AreNamedBelow rows nodes from → AreNamed rows nodes
-named-all from rows nodes none named key value held = named key value held (none-left from key rows value none held)
-
--- all keys were gone over
-pub named-end : (high end : ℕ) (rows : List Row) (nodes : ℕ → ℕ) → ((key : ℕ) (value : List ℕ) → lookup key rows ≡ Some value → key < end) → AreNamedBelow rows nodes end → AreNamed rows nodes
-named-end high end rows nodes below named key value held = named key value held (below key value held)
-
--- the keys of rows are below the bound
-pub key-below : (low high key : ℕ) (rows : List Row) (value : List ℕ) → IsWithin low high rows → lookup key rows ≡ Some value → key < high
-key-below low high key [] value w e = absurd (cc)
-key-below low high key (row ∷ rows) value w e = ⊎_elim
-    (λ (h : (row.0 ≡ key) × (row.1 ≡ value)). let k = h.0 in let b = bound (row.0 + 1) high rows w.1 in omega arith)
-    (λ (h : lookup key rows ≡ Some value). key-below (row.0 + 1) high key rows value w.1 h)
-    (lookup-cases key row rows value e)
-  where
-    bound : (l h : ℕ) (rs : List Row) → IsWithin l h rs → l ≤ h
-    bound l h [] v = v
-    bound l h (r ∷ rs) v = let a = v.0 in let b = bound (r.0 + 1) h rs v.1 in omega arith
-
--- the row names no node, or is all zeros
-pub unnamed-row : (low high from : ℕ) (rows : List Row) (nodes : ℕ → ℕ) (n w : ℕ) (value : List ℕ) → IsWithin low high rows → w < 2 ^ 64 → first_from from rows ≡ Some (key_of n w, value)
-    → (nodes n ≡ 0) ⊎ (are_zero value ≡ true) → (damage : Damage) → record { page = n; rule = WrongRow } ≡ damage → IsUnnamed rows nodes damage
-unnamed-row low high from rows nodes n w value within small is wrong damage e =
-    record { node = n; word = w; small = small; named = sym e; value = value; held = first-held low high from rows (key_of n w, value) within is; wrong = wrong }
+-- what is so in any case is so where there is none
+pub none-any : {X Y : Type 0} (o : Option X) → Y → IfNone o Y
+none-any None y = y
+none-any (Some x) y = tt
 
 -- a page that is none of the nodes has no byte
 pub unnamed-bytes : (rows : List Row) (nodes : ℕ → ℕ) → AreNamed rows nodes → (n w i : ℕ) → nodes n ≡ 0 → bytes_of rows n w i ≡ 0
@@ -145,11 +127,3 @@ named-filled rows nodes named key = by (lookup key rows) refl
     by : (o : Option (List ℕ)) → lookup key rows ≡ o → IsFilled o
     by None e = tt
     by (Some value) e = let h = named key value e in h.some
-
-pub key-zero : key_of 0 0 ≡ 0
-unfolding key_of
-key-zero = refl
-
--- the next row of rows that are the same
-pub first-is : (rows rows' : List Row) (from : ℕ) (o o' : Option WordRow) → rows' ≡ rows → o ≡ o' → first_from from rows' ≡ option_map row_of o → first_from from rows ≡ option_map row_of o'
-first-is rows rows' from o o' same e is = ap (first_from from) (sym same) ∙ is ∙ ap (option_map row_of) e

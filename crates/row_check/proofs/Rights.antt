@@ -192,25 +192,6 @@ pub none-wrong : (b : Bytes) (places : Placed) (slot : Option Slot) (words : Lis
 none-wrong b places slot words e apart up r =
     apart (impacts-same 0 0 words [] up tt (subst (IsRightSlot b places (λ w. impact_in words w)) e r))
 
--- what a slot's words are compared with, over pages that are the same
-pub slot-right_on : (pages pages' : PageMap) (rows : ℕ) (places : Placed) (page : ℕ) (bytes : List ℕ) (at : ℕ) (slot : Option Slot) (words words' : List (ℕ × ℕ)) → pages' ≡ pages → words' ≡ words
-    → IfSome slot (λ s. is_place s ≡ (level_in bytes == 0)) → option_map item_of slot ≡ slots_in bytes at → ((w : ℕ) → impact_in words w ≡ bytes_in pages rows page w at)
-    → IsRightSlot (bytes_in pages' rows) places (λ w. impact_in words' w) slot
-    → IsRight (bytes_in pages rows) places (level_in bytes) (λ w. bytes_in pages rows page w at) (slots_in bytes at)
-slot-right_on pages pages' rows places page bytes at slot words words' same list kind item is r =
-    slot-right pages rows places page bytes at slot words kind item is
-    (subst (λ (p : PageMap). IsRightSlot (bytes_in p rows) places (λ w. impact_in words w) slot) same
-    (subst (λ (ps : List (ℕ × ℕ)). IsRightSlot (bytes_in pages' rows) places (λ w. impact_in ps w) slot) list r))
-
-pub slot-wrong_on : (pages pages' : PageMap) (rows : ℕ) (places : Placed) (page : ℕ) (bytes : List ℕ) (at : ℕ) (slot : Option Slot) (words words' : List (ℕ × ℕ)) (damage : Damage) → pages' ≡ pages → words' ≡ words
-    → damage ≡ record { page = page; rule = Row }
-    → IfSome slot (λ s. is_place s ≡ (level_in bytes == 0)) → option_map item_of slot ≡ slots_in bytes at → ((w : ℕ) → impact_in words w ≡ bytes_in pages rows page w at)
-    → IsEntryIn places slot → (IsRightSlot (bytes_in pages' rows) places (λ w. impact_in words' w) slot → ⊥) → IsWrongSlot pages rows places page bytes at damage
-slot-wrong_on pages pages' rows places page bytes at slot words words' damage same list named kind item is entry apart =
-    slot-wrong pages rows places page bytes at slot words damage named kind item is entry
-    (λ r. apart (subst (λ (ps : List (ℕ × ℕ)). IsRightSlot (bytes_in pages' rows) places (λ w. impact_in ps w) slot) (sym list)
-    (subst (λ (p : PageMap). IsRightSlot (bytes_in p rows) places (λ w. impact_in words w) slot) (sym same) r)))
-
 -- one number more
 pub below-more : (P : ℕ → Type 0) (at : ℕ) → ((i : ℕ) → i < at → P i) → P at → (i : ℕ) → i < at + 1 → P i
 below-more P at below here i l = ⊎_elim (λ (e : i ≡ at). subst P (sym e) here) (λ (n : i ≡ at → ⊥). below i (omega arith)) (cases_eq i at)

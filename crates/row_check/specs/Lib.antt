@@ -1,2 +1,4 @@
 pub mod Agreement
+pub mod Columns
 pub mod Names
+pub mod Laws

@@ -8,6 +8,7 @@ use Rattle.run_outcome.specs.declared.ended.LimitFault.{LimitFault}
 use Rattle.run_outcome.specs.declared.ended.LimitFault.TheVariants.{Full, Worn, NoRoom}
 use Rattle.run_outcome.specs.declared.ended.StoreFault.{StoreFault}
 use Rattle.run_outcome.specs.declared.ended.StoreFault.TheVariants.{NotAStore, BadJournal, Damaged, Version1}
+use Rattle.page_face.specs.declared.fault.Damage.{Damage}
 use Rattle.page_face.specs.declared.fault.Rule.{Rule}
 use Rattle.page_face.specs.declared.fault.Rule.TheVariants as rules
 
@@ -51,6 +52,10 @@ rule_number rules.Row = 11
 rule_number rules.Entry = 12
 rule_number rules.Words = 13
 rule_number rules.Counts = 14
+
+-- `broken PAGE RULE`
+abbrev pub broken_line : Damage → List ℕ
+broken_line damage = codes "broken " ++ (decimal damage.page ++ (32 ∷ at_line (rule_number damage.rule)))
 
 -- what stands behind `irtree: ` where the store is none
 abbrev pub line_of_store : StoreFault → List ℕ

@@ -1,6 +1,6 @@
 // How a run ends.
 ghost use Rattle.std.specs.Prelude.{◌≡◌, ◌++◌, OnOk, OnErr};
-ghost use Rattle.run_outcome.specs.Ended.{status_of, line_of_end, line_of_input, line_of_store, line_of_limit, at_line, rule_number};
+ghost use Rattle.run_outcome.specs.Ended.{status_of, line_of_end, line_of_input, line_of_store, line_of_limit, at_line, broken_line, rule_number};
 ghost use Rattle.query_replies.specs.Written.{Adds};
 
 use page_face::{Damage, Rule};
@@ -162,6 +162,15 @@ impl StoreFault {
             StoreFault::Version1 => write_bytes(b"version 1\n", out),
         }
     }
+}
+
+/// Appends a line `broken PAGE RULE`, for a page that breaks a rule.
+pub fn write_broken(damage: &Damage, out: &mut Vec<u8>) -> Result<(), Memory>
+    ensures { Adds result out.old.items (broken_line damage.now) out.new.items }
+{
+    write_bytes(b"broken ", &mut *out)?;
+    write_number(u64::from(damage.page), &mut *out)?;
+    write_at(b" ", number_of(damage.rule), out)
 }
 
 // The number of a rule.

@@ -10,7 +10,7 @@ mod ended;
 mod refused;
 mod say;
 
-pub use ended::{Ended, InputFault, LimitFault, StoreFault};
+pub use ended::{Ended, InputFault, LimitFault, StoreFault, write_broken};
 pub use refused::ended_by;
 pub use say::say_all;
 

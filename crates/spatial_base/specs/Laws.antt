@@ -5,7 +5,7 @@ use Rattle.std.specs.Int.Signed.{le_z, ◌<ℤ◌}
 use Rattle.std.proofs.lemmas.Bool.{cases_Bool, cases_lt}
 use Rattle.std.proofs.lemmas.Nat.{mul-le}
 use Rattle.std.proofs.lemmas.Int.{ints, clamps}
-use Rattle.spatial_base.specs.Root.{IsRoot, root, root_of_digits}
+use Rattle.spatial_base.specs.Root.{IsRoot, root}
 use Rattle.spatial_base.specs.Point.{Position, IsOnMap, Viewpoint, IsViewpoint, seen_from, gap, longitude_gap, squared, line_of, distance}
 use Rattle.spatial_base.specs.Rect.{Bounds, IsRect, Holds, Covers, joined, clamped, longitude_gap_to, mindist_of}
 use Rattle.spatial_base.specs.RootLaws.{root-IsRoot, root-is, root_below, root_is_one}

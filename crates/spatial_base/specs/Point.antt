@@ -16,6 +16,7 @@ pub record Viewpoint : Type 0 where
   pub point : Position
   pub scale : ℕ
 
+-- what is seen from a point at a scale
 abbrev pub seen_from : Position → ℕ → Viewpoint
 seen_from point scale = record { point = point; scale = scale }
 

@@ -91,6 +91,15 @@ fn folder_advice_for(kind: ErrorKind) -> &'static str {
     }
 }
 
+// What to do if the system cannot give a path without links.
+fn path_advice_for(kind: ErrorKind) -> &'static str {
+    match kind {
+        ErrorKind::PermissionDenied => "open each folder above it to search, or name another store",
+        ErrorKind::OutOfMemory => advice_for(kind),
+        _ => "name a store whose whole path is UTF-8",
+    }
+}
+
 impl Cause {
     // What is wrong with the file.
     fn what(&self, alloc: Global) -> Result<String, Memory> {
@@ -116,10 +125,7 @@ impl Cause {
         match self {
             Cause::System(error) => advice_for(error.kind()),
             Cause::Lock(_) => "look at the file system's locks, or name a store elsewhere",
-            Cause::Path(error) if error.kind() == ErrorKind::PermissionDenied => {
-                "open each folder above it to search, or name another store"
-            }
-            Cause::Path(_) => "name a store whose whole path is UTF-8",
+            Cause::Path(error) => path_advice_for(error.kind()),
             Cause::Folder(error) => folder_advice_for(error.kind()),
             Cause::InUse => "wait for it to end",
             Cause::NotAFile => "name a file",

@@ -1,12 +1,12 @@
--- Two lists in order, with each element as often, are one list.
-use Rattle.std.proofs.Common.{◌≡◌, ◌⊎◌, ℕ, suc, ◌+◌, ◌<◌, ◌≤◌, List, [], ◌∷◌, get_or, length, Bool, true, false, if◌then◌else◌, arith, refl, sym, ap, ◌∙◌, subst, inl, inr, ⊎_elim}
+-- Two lists in order are one list, or some element isn't equally often in both.
+use Rattle.std.proofs.Common.{◌≡◌, ◌≢◌, ◌⊎◌, ℕ, suc, ◌+◌, ◌<◌, ◌≤◌, List, [], ◌∷◌, get_or, length, Bool, true, false, if◌then◌else◌, arith, refl, sym, ap, ◌∙◌, subst, inl, inr, ⊎_elim}
 use Rattle.std.specs.Cmp.{IsTotalOrder}
 use Rattle.std.specs.List.{AllByRecursion}
 use Rattle.std.specs.List.Sorted.{IsSorted}
 use Rattle.std.specs.Ordering.{is_eq, is_lt, ordering_reverse}
 use Rattle.std.specs.declared.cmp.Ordering.{Ordering}
 use Rattle.std.specs.declared.cmp.Ordering.TheVariants.{Less, Equal, Greater}
-use Rattle.std.proofs.lemmas.Bool.{false≢true}
+use Rattle.std.proofs.lemmas.Bool.{cases_eq, false≢true}
 use Rattle.std.proofs.lemmas.List.Sorted.{ranks_by, sorted_far}
 use Rattle.std.proofs.lemmas.Map.Lookups.{CmpEqualImpliesEq}
 use Rattle.store_agreement.proofs.Times.{TellsApart, count, self_tie, tie_of}
@@ -20,6 +20,12 @@ not-both : (o : Ordering) → is_lt o ≡ false → is_lt (ordering_reverse o) �
 not-both Less a b = absurd (cc)
 not-both Equal a b = refl
 not-both Greater a b = absurd (cc)
+
+-- some element of a kind isn't equally often in both lists
+pub record AreUneven {X : Type 0} (same : X → X → ℕ) (P : X → Type 0) (xs ys : List X) : Type 0 where
+  pub element : X
+  pub kind : P element
+  pub apart : count same element xs ≢ count same element ys
 
 module _ {X : Type 0} {cmp : X → X → Ordering} (order : IsTotalOrder cmp) (exact : CmpEqualImpliesEq cmp) where
   -- 1 for two that tie, and else 0
@@ -46,27 +52,35 @@ module _ {X : Type 0} {cmp : X → X → Ordering} (order : IsTotalOrder cmp) (e
   itself : (x : X) → same_by x x ≡ 1
   itself x = ⊎_elim (λ s. s.1) (λ o. absurd (o.0 refl)) (order-tells x x)
 
-  -- two lists in order with the same elements are one
-  pub same-ordered : (P : X → Type 0) (xs ys : List X) → AllByRecursion P xs → AllByRecursion P ys → IsOrdered xs → IsOrdered ys → ((p : X) → P p → count same_by p xs ≡ count same_by p ys) → xs ≡ ys
-  same-ordered P [] [] are are' up up' all = refl
-  same-ordered P [] (y ∷ ys) are are' up up' all = let counts = all y are'.0 in let one = itself y in absurd (omega arith)
-  same-ordered P (x ∷ xs) [] are are' up up' all = let counts = all x are.0 in let one = itself x in absurd (omega arith)
-  same-ordered P (x ∷ xs) (y ∷ ys) are are' up up' all =
+  -- two lists in order are one, or some element isn't equally often in both: one of the first two that differ
+  pub same-or-apart : (P : X → Type 0) (xs ys : List X) → AllByRecursion P xs → AllByRecursion P ys → IsOrdered xs → IsOrdered ys → (xs ≡ ys) ⊎ AreUneven same_by P xs ys
+  same-or-apart P [] [] are are' up up' = inl refl
+  same-or-apart P [] (y ∷ ys) are are' up up' = let one = itself y in inr record { element = y; kind = are'.0; apart = λ e. absurd (omega arith) }
+  same-or-apart P (x ∷ xs) [] are are' up up' = let one = itself x in inr record { element = x; kind = are.0; apart = λ e. absurd (omega arith) }
+  same-or-apart P (x ∷ xs) (y ∷ ys) are are' up up' =
       ⊎_elim
       (λ s. let e : x ≡ y = s.0 in
-      let rest = same-ordered P xs ys are.1 are'.1 up.1 up'.1 (λ p here. let counts = all p here in let b : same_by p x ≡ same_by p y = ap (same_by p) e in omega arith) in
-      ap (λ (z : X). z ∷ xs) e ∙ ap (λ (zs : List X). y ∷ zs) rest)
+      ⊎_elim
+      (λ rest. inl (ap (λ (z : X). z ∷ xs) e ∙ ap (λ (zs : List X). y ∷ zs) rest))
+      (λ w. inr record { element = w.element; kind = w.kind; apart = λ counts. let b : same_by w.element x ≡ same_by w.element y = ap (same_by w.element) e in w.apart (omega arith) })
+      (same-or-apart P xs ys are.1 are'.1 up.1 up'.1))
       (λ o.
       let none = o.1 in
-      let apart : x ≡ y → ⊥ = o.0 in
-      let other : same_by y x ≡ 0 = ⊎_elim (λ s. absurd (apart (sym s.0))) (λ q. q.1) (order-tells y x) in
-      let counts = all x are.0 in
+      let other : same_by y x ≡ 0 = ⊎_elim (λ s. absurd (o.0 (sym s.0))) (λ q. q.1) (order-tells y x) in
       let here = itself x in
-      let counts' = all y are'.0 in
       let there = itself y in
+      ⊎_elim
+      (λ lacks. inr record { element = x; kind = are.0; apart = λ counts. absurd (omega arith) })
+      (λ has.
       let not-below = member (λ z. is_lt (cmp z y) ≡ false) x ys up'.0 (omega arith) in
-      let not-above = member (λ z. is_lt (cmp z x) ≡ false) y xs up.0 (omega arith) in
-      absurd (apart (exact x y (not-both (cmp x y) not-below (ap is_lt (sym (order.antisymm y x)) ∙ not-above)))))
+      inr record {
+        element = y;
+        kind = are'.0;
+        apart = λ counts.
+            let not-above = member (λ z. is_lt (cmp z x) ≡ false) y xs up.0 (omega arith) in
+            o.0 (exact x y (not-both (cmp x y) not-below (ap is_lt (sym (order.antisymm y x)) ∙ not-above)));
+      })
+      (cases_eq (count same_by x ys) 0))
       (order-tells x y)
 
   -- a sorted list is in order

@@ -1,5 +1,5 @@
 -- Keys at points in order, and the sums over their entries.
-use Rattle.std.proofs.Common.{◌≡◌, ◌↔◌, ℕ, ◌&&◌, List, [], ◌∷◌, Bool, true, false, int_cmp, int_eq, arith, refl, sym, ap, ◌∙◌, ⊎_elim}
+use Rattle.std.proofs.Common.{◌≡◌, ◌↔◌, ◌⊎◌, ℕ, ◌&&◌, List, [], ◌∷◌, Bool, true, false, int_cmp, int_eq, arith, refl, sym, ap, ◌∙◌, inl, inr, ⊎_elim}
 use Rattle.std.specs.Bool.{Decides, IsTrue}
 use Rattle.std.specs.Cmp.{IsTotalOrder}
 use Rattle.std.specs.Cmp.Lexicographic.{pointwise}
@@ -10,7 +10,7 @@ use Rattle.std.specs.Ordering.{eq_by_cmp, is_eq, is_lt, ordering_reverse, orderi
 use Rattle.std.specs.Str.{bytes_eq}
 use Rattle.std.specs.declared.cmp.Ordering.{Ordering}
 use Rattle.std.specs.declared.cmp.Ordering.TheVariants.{Less, Equal, Greater}
-use Rattle.std.proofs.lemmas.Bool.{cases_eq}
+use Rattle.std.proofs.lemmas.Bool.{cases_eq, false≢true}
 use Rattle.std.proofs.lemmas.Bool.Decides.{nat_tests, Decides-and, Decides-int_eq}
 use Rattle.std.proofs.lemmas.Cmp.{int_cmp_total, on_total, then_total}
 use Rattle.std.proofs.lemmas.Int.{ints, clamps}
@@ -27,9 +27,9 @@ use Rattle.rtree_nodes.specs.Reach.{reach_of}
 use Rattle.rtree_nodes.specs.Slots.{Item}
 use Rattle.rtree_nodes.proofs.Entries.{entry-is}
 use Rattle.store_tables.proofs.KeyLemmas.{form-same}
-use Rattle.store_agreement.specs.Sites.{IsSite, Site, site_item, site_sum}
+use Rattle.store_agreement.specs.Sites.{AreApart, IsSite, Site, site_item, site_sum}
 use Rattle.store_agreement.proofs.Times.{count, self_tie, tie_of}
-use Rattle.store_agreement.proofs.Ordered.{IsOrdered, order-tells, ordered-sorted, same_by, same-ordered}
+use Rattle.store_agreement.proofs.Ordered.{IsOrdered, order-tells, ordered-sorted, same_by, same-or-apart}
 
 -- ---- order
 
@@ -121,12 +121,26 @@ same_site a b =
 pub sites-decide : (xs ys : List Site) (r : Bool) → r ≡ pointwise (λ (a b : Site). eq_by_cmp key_cmp a.0 b.0 && (int_eq a.1.x b.1.x && int_eq a.1.y b.1.y)) xs ys → Decides r (xs ≡ ys)
 sites-decide xs ys r e = slice_eq-Decides same_site xs ys r e
 
--- sorted entries are the places exactly if each sum over the entries is that over the places
-pub leaves-decide : (found sorted places : List Site) (r : Bool) → All IsSite found → All IsSite places → IsStrictlySortedBy key_cmp (keys_of places) → IsPermutation found sorted → IsSorted site_cmp sorted
-    → IsTrue r ↔ (sorted ≡ places) → IsTrue r ↔ ((f : Item → ℕ) → site_sum f found ≡ site_sum f places)
-leaves-decide found sorted places r are sites ascend moved up test =
-    let after : All IsSite sorted = moved-all IsSite found sorted moved are in (
+module _ (found sorted places : List Site) (are : All IsSite found) (sites : All IsSite places) (ascend : IsStrictlySortedBy key_cmp (keys_of places)) (moved : IsPermutation found sorted) (up : IsSorted site_cmp sorted) where
+  -- sorted entries are the places, or some key at some point isn't equally often in both
+  sorted-or-apart : (sorted ≡ places) ⊎ AreApart found places
+  sorted-or-apart =
+      let after : All IsSite sorted = moved-all IsSite found sorted moved are in
+      ⊎_elim inl
+      (λ w. inr record {
+        site = w.element;
+        apart = λ sums. w.apart (sym (entry-count w.element w.kind sorted after) ∙ sum_by-IsPermutation (λ (s : Site). is_entry w.element.1 (form_of w.element.0) (site_item s)) found sorted moved ∙ sums ∙ entry-count w.element w.kind places sites);
+      })
+      (same-or-apart site_total site_exact IsSite sorted places (by-all IsSite sorted after) (by-all IsSite places sites) (ordered-sorted site_total site_exact sorted up) (ordered-keys places ascend))
+
+  module _ (r : Bool) (test : IsTrue r ↔ (sorted ≡ places)) where
+    -- they are the places exactly if each sum over the entries is that over the places
+    pub leaves-decide : IsTrue r ↔ ((f : Item → ℕ) → site_sum f found ≡ site_sum f places)
+    leaves-decide = (
       (λ yes' f. sym (sum_by-IsPermutation (λ (s : Site). f (site_item s)) found sorted moved) ∙ ap (site_sum f) (test.0 yes')),
-      (λ all. test.1 (same-ordered site_total site_exact IsSite sorted places (by-all IsSite sorted after) (by-all IsSite places sites) (ordered-sorted site_total site_exact sorted up) (ordered-keys places ascend)
-          (λ p here. sym (entry-count p here sorted after) ∙ sum_by-IsPermutation (λ (s : Site). is_entry p.1 (form_of p.0) (site_item s)) found sorted moved ∙ all (is_entry p.1 (form_of p.0)) ∙ entry-count p here places sites))),
+      (λ all. test.1 (⊎_elim (λ same. same) (λ w. absurd (w.apart (all (is_entry w.site.1 (form_of w.site.0))))) sorted-or-apart)),
     )
+
+    -- if they aren't, some key at some point isn't equally often in both
+    pub leaves-apart : r ≡ false → AreApart found places
+    leaves-apart differ = ⊎_elim (λ same. absurd (false≢true (sym differ ∙ test.1 same))) (λ w. w) sorted-or-apart

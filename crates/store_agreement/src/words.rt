@@ -49,9 +49,8 @@ fn are_inverse(
     texts: &[(Word, u64)],
     numbers: &[(u64, Counted)],
 ) -> Result<bool, AllocError>
-    requires texts { IsStrictlySortedBy word_cmp (keys_of texts.now) }
-    requires numbers { IsStrictlySortedBy nat_cmp (keys_of numbers.now) }
-    ensures { IfOk result (λ agree. IsTrue agree ↔ AreInverse texts.now numbers.now) }
+    ensures { IsStrictlySortedBy word_cmp (keys_of texts.now) → IsStrictlySortedBy nat_cmp (keys_of numbers.now)
+        → IfOk result (λ agree. IsTrue agree ↔ AreInverse texts.now numbers.now) }
 {
     let back = by_number(alloc, texts)?;
     let names = names(alloc, numbers)?;
@@ -82,8 +81,7 @@ fn run_of(held: &[u64], number: u64) -> usize
 
 // Whether numbers in order are those of the rows, each as often as places hold its word, and at least once.
 fn are_counts(numbers: &[(u64, Counted)], held: &[u64]) -> bool
-    requires { IsStrictlySortedBy nat_cmp (keys_of numbers.now) }
-    ensures { IsTrue result ↔ ((held.now ≡ spread numbers.now) × HaveAPlace numbers.now) }
+    ensures { IsStrictlySortedBy nat_cmp (keys_of numbers.now) → (IsTrue result ↔ ((held.now ≡ spread numbers.now) × HaveAPlace numbers.now)) }
 {
     let mut at = 0;
     for row in numbers {
@@ -98,8 +96,7 @@ fn are_counts(numbers: &[(u64, Counted)], held: &[u64]) -> bool
 
 // Whether each word has as many places as its number is often in the list, which is put in order, and at least one.
 fn are_held(numbers: &[(u64, Counted)], held: &mut [u64]) -> bool
-    requires { IsStrictlySortedBy nat_cmp (keys_of numbers.now) }
-    ensures { IsTrue result ↔ AreCounted (number_times held.old) numbers.now }
+    ensures { IsStrictlySortedBy nat_cmp (keys_of numbers.now) → (IsTrue result ↔ AreCounted (number_times held.old) numbers.now) }
 {
     held.sort_unstable();
     are_counts(numbers, held)
@@ -120,8 +117,8 @@ fn are_below(numbers: &[(u64, Counted)], next_word: u64) -> bool
 /// Whether the word tables agree with each other and with the places, whose words have the numbers `held`.
 ///
 /// They agree if the words by text and by number are each other's inverse, each count of places is how often its number is in `held`,
-/// no count is 0, each number of `held` has a word, and each number is below `next_word`. The rows are in the order of their keys.
-/// `held` has a number for each word of each place, in any order, and is left in order. The call takes 96 bytes a word.
+/// no count is 0, each number of `held` has a word, and each number is below `next_word`. It says so if the rows are in the order of their
+/// keys. `held` has a number for each word of each place, in any order, and is left in order. The call takes 96 bytes a word.
 pub fn words_agree(
     alloc: Global,
     texts: &[(Word, u64)],
@@ -129,9 +126,8 @@ pub fn words_agree(
     held: &mut [u64],
     next_word: u64,
 ) -> Result<bool, AllocError>
-    requires texts { IsStrictlySortedBy word_cmp (keys_of texts.now) }
-    requires numbers { IsStrictlySortedBy nat_cmp (keys_of numbers.now) }
-    ensures { IfOk result (λ agree. IsTrue agree ↔ WordTablesAgree (number_times held.old) texts.now numbers.now next_word) }
+    ensures { IsStrictlySortedBy word_cmp (keys_of texts.now) → IsStrictlySortedBy nat_cmp (keys_of numbers.now)
+        → IfOk result (λ agree. IsTrue agree ↔ WordTablesAgree (number_times held.old) texts.now numbers.now next_word) }
 {
     if !are_inverse(alloc, texts, numbers)? {
         return Ok(false);

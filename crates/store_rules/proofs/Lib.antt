@@ -1,4 +1,5 @@
 pub mod Apart
+pub mod Checked
 pub mod Damages
 pub mod Entries
 pub mod Impacts

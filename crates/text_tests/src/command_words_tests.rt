@@ -24,6 +24,8 @@ town.store load > town.store load 1000 1024 Quadratic 0 1000
 --policy words - load --batch 5 > - load 5 1024 Words 0 1000
 - make --policy words > - make 1000 1024 Words 0 1000
 --count 100000 - --from 18446744073709551615 make > - make 1000 1024 Quadratic 18446744073709551615 100000
+- verify > - verify 1000 1024 Quadratic 0 1000
+some.store verify --cache 0 > some.store verify 1000 0 Quadratic 0 1000
 - upgrade > - upgrade 1000 1024 Quadratic 0 1000
 old.store upgrade --cache 0 > old.store upgrade 1000 0 Quadratic 0 1000
 > Line
@@ -71,6 +73,8 @@ old.store upgrade --cache 0 > old.store upgrade 1000 0 Quadratic 0 1000
 - load --count 5 > Unused
 --from 0 - load > Unused
 - make --text name > Unused
+- verify --policy halving > Unused
+- verify --batch 5 > Unused
 - upgrade --policy halving > Unused
 - upgrade --batch 5 > Unused
 --text name - upgrade > Unused
@@ -126,9 +130,10 @@ fn words_ask_for_their_job(rt: HostRuntime) -> Result<(), Fail> {
 
 // Command words that are refused, and the text for a person.
 static REFUSALS: &str = "\
-- dance > unknown action 'dance', expected run, load, make or upgrade
+- dance > unknown action 'dance', expected run, load, verify, make or upgrade
 - run --batch 1 > the action run doesn't use '--batch'
 - load --from 1 > the action load doesn't use '--from'
+- verify --count 5 > the action verify doesn't use '--count'
 - upgrade --policy words > the action upgrade doesn't use '--policy'
 - load --policy linear > unknown policy 'linear', expected quadratic, halving or words
 - run --policy > a value is required for '--policy <POLICY>' but none was supplied

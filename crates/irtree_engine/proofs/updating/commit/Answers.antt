@@ -3,6 +3,7 @@ use Rattle.disk_model.specs.World.{LeavesOnly}
 use Rattle.page_journal.specs.Record.{applied}
 use Rattle.page_face.specs.declared.head.Head.{Head}
 use Rattle.page_store.specs.Store.{Rests, rests_still}
+use Rattle.page_store.specs.Superblock.{IsInRange}
 use Rattle.page_store.specs.declared.superblock.Superblock.{Superblock}
 use Rattle.page_store.specs.Contents.{Contents, HoldsOneOf, contents_in, contents_of}
 use Rattle.irtree_engine.specs.Changes.{block_with}
@@ -54,6 +55,15 @@ returns-in-Ok-clause-new_head g c = inl (ap (λ (b : Superblock). b.head) (c.com
 
 pub returns-in-Err-clause-new_head : goal.returns-in-Err-clause-new_head
 returns-in-Err-clause-new_head g c = inr (ap (λ (b : Superblock). b.head) (c.abandon-in-Err.ensures.current ∙ c.in-Err.ensures.kept ∙ c.set_head.ensures.last))
+
+pub returns-then-head-clause-in_range : goal.returns-then-head-clause-in_range
+returns-then-head-clause-in_range g c = subst IsInRange (sym c.abandon.ensures.current) c.requires.last
+
+pub returns-in-Ok-clause-in_range : goal.returns-in-Ok-clause-in_range
+returns-in-Ok-clause-in_range g c = subst IsInRange (sym (c.commit_all.ensures.current ∙ c.set_head.ensures.current)) c.requires.in_range
+
+pub returns-in-Err-clause-in_range : goal.returns-in-Err-clause-in_range
+returns-in-Err-clause-in_range g c = subst IsInRange (sym (c.abandon-in-Err.ensures.current ∙ c.in-Err.ensures.kept ∙ c.set_head.ensures.last)) c.requires.last
 
 -- ---- nothing to commit
 

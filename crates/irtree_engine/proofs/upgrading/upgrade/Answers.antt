@@ -7,7 +7,7 @@ use Rattle.store_upgrade.specs.Version1.{StandsVersion1}
 use Rattle.irtree_engine.specs.Opening.{IsRecovered, LeavesRefused}
 use Rattle.irtree_engine.specs.Upgrades.{LeavesEither}
 use Rattle.irtree_engine.specs.declared.fault.EngineFault.{EngineFault}
-use Rattle.irtree_engine.specs.declared.fault.EngineFault.TheVariants.{Disk, NotAStore, BadJournal, Damaged}
+use Rattle.irtree_engine.specs.declared.fault.EngineFault.TheVariants.{NotAStore, BadJournal, Damaged}
 use Rattle.irtree_engine.proofs.Openings.{bad-journal}
 use Rattle.irtree_engine.proofs.Upgrades.{alike-further, broken-version1, damage-back, foreign-version1, neither, openable-back, opening-version1, recovered-further, recovered-magic, recovered-version1, refused-left}
 use Rattle.irtree_engine.proofs.upgrading.upgrade.Goals.{In-Err-Version1, After-upgrade_version1}

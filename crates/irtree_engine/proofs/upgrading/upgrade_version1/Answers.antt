@@ -3,7 +3,6 @@ use Rattle.std.specs.Prelude.{IfOk, IsErrOf, length}
 use Rattle.disk_model.specs.World.{LeavesOnly}
 use Rattle.disk_model.proofs.Moments.{then, within}
 use Rattle.page_store.specs.declared.opening.OpenFault.TheVariants.{NotAStore, BadJournal}
-use Rattle.place_values.specs.State as states
 use Rattle.irtree_engine.specs.Holding.{HoldsState}
 use Rattle.irtree_engine.specs.Opening.{IsRecovered}
 use Rattle.irtree_engine.specs.Upgrades.{IsOpenableVersion1, LeavesEither}

@@ -10,11 +10,11 @@ use Rattle.run_outcome.specs.Load.{GivesItems, IsTaken, ReachesLimit}
 use Rattle.command_words.specs.Job.{asked_of}
 use Rattle.command_words.specs.declared.job.Action.{Action}
 use Rattle.command_words.specs.declared.job.Action.TheVariants as actions
-use Rattle.irtree_top.specs.Run.{IsInputEnd, IsLimitOf, IsWholeInput, LacksRoomFor, LeavesInput, ReachesLimitBy}
+use Rattle.irtree_top.specs.Run.{IsInputEnd, IsLimitOf, IsWholeInput, LacksRoomFor, LeavesInput, ReachesLimitBy, ReadsNothing}
 use Rattle.load_run.proofs.Causes.{job-of-engine}
 use Rattle.irtree_top.proofs.Asking.{script-opens}
-use Rattle.irtree_top.proofs.Crashes.{load-left, make-left, script-left}
-use Rattle.irtree_top.proofs.Jobs.{engine-unread, load-ends, make-ends, script-ends}
+use Rattle.irtree_top.proofs.Crashes.{load-left, make-left, script-left, verify-left}
+use Rattle.irtree_top.proofs.Jobs.{engine-unread, load-ends, make-ends, script-ends, verify-ends}
 use Rattle.irtree_top.proofs.serve.act.Goals as goal
 
 pub returns-in-Run-clause-told : goal.returns-in-Run-clause-told
@@ -153,3 +153,77 @@ returns-in-Make-clause-lacks g c = λ told is.
     let some : max c.args.job.now.batch 1 ≡ c.args.job.now.batch = omega (arith, c.requires.some) in
     subst (λ (a : Action). LacksRoomFor a c.args.job.now.batch (g.T.Disk.room_of disk) (g.T.Disk.world disk).seen) (sym c.in-Make.is)
     (subst (λ (n : ℕ). LacksRoomIn n (g.T.Disk.room_of disk) (g.T.Disk.world disk).seen) some (c.run_make.ensures.lacks told is))
+
+-- ---- a check
+
+pub returns-in-Verify-clause-told : goal.returns-in-Verify-clause-told
+returns-in-Verify-clause-told g c = λ readable told state holds.
+    let input = g.S.Source.left c.args.source.now in
+    verify-ends (asked_of c.args.job.now) state input c.in-Verify.is (Unit {0}) input (g.T.Disk.world c.args.engine.now.store.disk.now) (g.T.Disk.world c.run_verify.new.engine.store.disk.now) c.run_verify.result refl
+    (c.run_verify.ensures.told told state holds)
+
+pub returns-in-Verify-clause-any_moment : goal.returns-in-Verify-clause-any_moment
+returns-in-Verify-clause-any_moment g c = λ readable told state holds.
+    verify-left (asked_of c.args.job.now) state (g.S.Source.left c.args.source.now) c.requires.some c.in-Verify.is (g.T.Disk.world c.args.engine.now.store.disk.now) (g.T.Disk.world c.run_verify.new.engine.store.disk.now) (c.run_verify.ensures.any_moment told state holds)
+
+pub returns-in-Verify-clause-opens_few : goal.returns-in-Verify-clause-opens_few
+returns-in-Verify-clause-opens_few g c = λ runs readable told state holds asks. let verifies : actions.Verify ≡ actions.Run = sym c.in-Verify.is ∙ runs in absurd (cc)
+
+pub returns-in-Verify-clause-met : goal.returns-in-Verify-clause-met
+returns-in-Verify-clause-met g c = λ runs readable told reads. let verifies : actions.Verify ≡ actions.Run = sym c.in-Verify.is ∙ runs in absurd (cc)
+
+pub returns-in-Verify-clause-cause : goal.returns-in-Verify-clause-cause
+returns-in-Verify-clause-cause g c =
+    let faults = g.S.Source.faults c.args.source.now in
+    job-of-engine g.T.Disk.readable faults faults (g.T.Disk.world c.args.engine.now.store.disk.now) (g.T.Disk.world c.run_verify.new.engine.store.disk.now) c.run_verify.result refl c.run_verify.ensures.cause
+
+pub returns-in-Verify-clause-input : goal.returns-in-Verify-clause-input
+returns-in-Verify-clause-input g c = λ readable fault is.
+    absurd (subst (λ (r : Result (Unit {0}) Ended). IfErr r (IsEngineEnd g.T.Disk.readable (g.T.Disk.world c.args.engine.now.store.disk.now) (g.T.Disk.world c.run_verify.new.engine.store.disk.now))) is c.run_verify.ensures.cause.cause)
+
+pub returns-in-Verify-clause-whole : goal.returns-in-Verify-clause-whole
+returns-in-Verify-clause-whole g c = λ readable.
+    let input = g.S.Source.left c.args.source.now in
+    on_ok_from c.run_verify.result (subst (λ (a : Action). LeavesInput a input input × IsWholeInput a (option_map string_bytes c.args.job.now.text) input) (sym c.in-Verify.is) (refl, tt))
+
+pub returns-in-Verify-clause-limits : goal.returns-in-Verify-clause-limits
+returns-in-Verify-clause-limits g c = λ fault is. absurd (c.run_verify.ensures.unlimited fault is)
+
+pub returns-in-Verify-clause-reached : goal.returns-in-Verify-clause-reached
+returns-in-Verify-clause-reached g c = λ readable fault is. absurd (c.run_verify.ensures.unlimited fault is)
+
+pub returns-in-Verify-clause-lacks : goal.returns-in-Verify-clause-lacks
+returns-in-Verify-clause-lacks g c = λ told is. absurd (c.run_verify.ensures.unlimited _ is)
+
+pub returns-in-Verify-clause-unread : goal.returns-in-Verify-clause-unread
+returns-in-Verify-clause-unread g c = λ verifies. (refl, engine-unread g.T.Disk.readable (g.T.Disk.world c.args.engine.now.store.disk.now) (g.T.Disk.world c.run_verify.new.engine.store.disk.now) (Unit {0}) c.run_verify.result c.run_verify.ensures.cause.cause)
+
+pub returns-in-Run-clause-verified : goal.returns-in-Run-clause-verified
+returns-in-Run-clause-verified g c = λ verifies told. let other : actions.Run ≡ actions.Verify = sym c.in-Run.is ∙ verifies in absurd (cc)
+
+pub returns-in-Run-clause-named : goal.returns-in-Run-clause-named
+returns-in-Run-clause-named g c = λ verifies told damage is. let other : actions.Run ≡ actions.Verify = sym c.in-Run.is ∙ verifies in absurd (cc)
+
+pub returns-in-Load-clause-verified : goal.returns-in-Load-clause-verified
+returns-in-Load-clause-verified g c = λ verifies told. let other : actions.Load ≡ actions.Verify = sym c.in-Load.is ∙ verifies in absurd (cc)
+
+pub returns-in-Load-clause-named : goal.returns-in-Load-clause-named
+returns-in-Load-clause-named g c = λ verifies told damage is. let other : actions.Load ≡ actions.Verify = sym c.in-Load.is ∙ verifies in absurd (cc)
+
+pub returns-in-Make-clause-verified : goal.returns-in-Make-clause-verified
+returns-in-Make-clause-verified g c = λ verifies told. let other : actions.Make ≡ actions.Verify = sym c.in-Make.is ∙ verifies in absurd (cc)
+
+pub returns-in-Make-clause-named : goal.returns-in-Make-clause-named
+returns-in-Make-clause-named g c = λ verifies told damage is. let other : actions.Make ≡ actions.Verify = sym c.in-Make.is ∙ verifies in absurd (cc)
+
+pub returns-in-Run-clause-unread : goal.returns-in-Run-clause-unread
+returns-in-Run-clause-unread g c = λ unread. absurd (subst ReadsNothing c.in-Run.is unread)
+
+pub returns-in-Load-clause-unread : goal.returns-in-Load-clause-unread
+returns-in-Load-clause-unread g c = λ unread. absurd (subst ReadsNothing c.in-Load.is unread)
+
+pub returns-in-Verify-clause-verified : goal.returns-in-Verify-clause-verified
+returns-in-Verify-clause-verified g c = λ verifies told. c.run_verify.ensures.verified told
+
+pub returns-in-Verify-clause-named : goal.returns-in-Verify-clause-named
+returns-in-Verify-clause-named g c = λ verifies told damage is. c.run_verify.ensures.named told damage is

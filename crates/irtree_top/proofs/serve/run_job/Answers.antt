@@ -1,5 +1,8 @@
-use Rattle.std.proofs.Common.{◌≡◌, rules, refl, sym, ap, subst, ◌∙◌, arith}
+use Rattle.std.proofs.Common.{◌≡◌, inr, rules, refl, sym, ap, subst, ◌∙◌, arith}
 use Rattle.std.specs.Prelude.{IfErr, IsErrOf, OnOk}
+use Rattle.std.proofs.lemmas.Result.{on_ok_weaker}
+use Rattle.irtree_engine.specs.Verified.{HoldsSome}
+use Rattle.irtree_top.specs.Verify.{SaysBroken, TellsBroken}
 use Rattle.command_words.specs.Job.{asked_of}
 use Rattle.irtree_engine.specs.declared.fault.EngineFault.TheVariants as engine
 use Rattle.disk_model.specs.World.{LeavesOnly, LeavesOnlySeen}
@@ -21,6 +24,7 @@ use Rattle.irtree_top.proofs.Reading.{opened-names, refused-names}
 use Rattle.irtree_top.proofs.serve.run_job.Given as given
 use Rattle.irtree_top.proofs.serve.run_job.Goals.{After-ended_by}
 use Rattle.irtree_top.proofs.Rests.{job-rests, none-behind}
+use Rattle.irtree_top.proofs.Verified.{broken-opened, refused-tells, some-opened}
 use Rattle.irtree_top.proofs.serve.run_job.Goals as goal
 
 -- what the refused opening says of the image
@@ -180,3 +184,25 @@ returns-in-Err-clause-unopened g c = λ told closed. record { alike = c.recover_
 
 pub returns-clause-unopened : goal.returns-clause-unopened
 returns-clause-unopened g c = λ told closed. absurd (closed (opened-image c.in-Ok.block (g.T.Disk.world c.args.station.now) (g.T.Disk.world c.recover_superblock.new.disk) (c.in-Ok.ensures.opened told)))
+
+-- ---- a check
+
+pub returns-in-Err-clause-named : goal.returns-in-Err-clause-named
+returns-in-Err-clause-named g c = λ verifies told damage is.
+    refused-tells g.T.Disk.readable (g.T.Disk.world c.args.station.now) (g.T.Disk.world c.recover_superblock.new.disk) c.in-Err.fault told (refuses g (goal.at.returns-in-Err-clause-named g c).After-ended_by)
+    (c.recover_superblock.ensures.quiet told).said damage (sym c.ended_by.ensures ∙ cc)
+
+pub returns-clause-verified : goal.returns-clause-verified
+returns-clause-verified g c = λ verifies told.
+    let world = g.T.Disk.world in
+    let over : c.over-engine.result.store.disk.now ≡ c.recover_superblock.new.disk = c.over-engine.ensures.disk in
+    on_ok_weaker c.serve-end.result (some-opened (world c.args.station.now) (world c.recover_superblock.new.disk) (c.in-Ok.ensures.opened told).stands)
+    (subst (λ disk. OnOk c.serve-end.result (HoldsSome (world disk).seen)) over (c.serve-end.ensures.verified verifies told))
+
+pub returns-clause-named : goal.returns-clause-named
+returns-clause-named g c = λ verifies told damage is.
+    let world = g.T.Disk.world in
+    let over : c.over-engine.result.store.disk.now ≡ c.recover_superblock.new.disk = c.over-engine.ensures.disk in
+    given-back (λ disk. TellsBroken damage (world c.args.station.now) (world disk)) c.serve-end.new.engine.store.disk.now _ (search rules)
+    (inr (broken-opened (world c.args.station.now) (world c.recover_superblock.new.disk) (c.in-Ok.ensures.opened told).stands (world c.serve-end.new.engine.store.disk.now) (c.in-Ok.ensures.quiet told).said damage
+    (subst (λ disk. SaysBroken damage (world disk) (world c.serve-end.new.engine.store.disk.now)) over (c.serve-end.ensures.named verifies told damage is))))

@@ -1,4 +1,4 @@
-use Rattle.std.proofs.Common.{IsTrue, refl, arith}
+use Rattle.std.proofs.Common.{IsTrue, refl, arith, ◌∙◌}
 use Rattle.disk_model.specs.World.{LeavesOnly}
 use Rattle.place_values.specs.State.{Contents}
 use Rattle.irtree_engine.specs.Holding.{HoldsState}
@@ -93,3 +93,8 @@ returns-in-Err-clause-lacks g c = λ told is. absurd (cc)
 pub returns-in-Ok-clause-at_rest : goal.returns-in-Ok-clause-at_rest
 returns-in-Ok-clause-at_rest g c = λ told.
     leaves-rest c.act-end.new.engine.stopped (g.T.Disk.world c.settle.new.engine.store.disk.now) c.act-end.result c.act-end.ensures.goes_on (c.in-Ok.ensures.at_rest told)
+
+pub returns-in-Ok-clause-named : goal.returns-in-Ok-clause-named
+returns-in-Ok-clause-named g c = λ verifies told damage is.
+    let says = c.act-end.ensures.named verifies told damage is in
+    (says.0, c.settle.ensures.silent told ∙ says.1)

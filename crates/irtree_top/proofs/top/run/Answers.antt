@@ -1,15 +1,19 @@
-use Rattle.std.proofs.Common.{◌≡◌, ◌∙◌, refl, ap, subst}
+use Rattle.std.proofs.Common.{◌≡◌, ◌∙◌, refl, sym, ap, subst}
 use Rattle.std.specs.Prelude.{Err, IsErrOf}
 use Rattle.run_outcome.specs.declared.ended.Ended.{Ended}
 use Rattle.run_outcome.specs.declared.ended.Ended.TheVariants as ends
 use Rattle.run_outcome.specs.declared.ended.LimitFault.TheVariants as limits
 use Rattle.disk_model.specs.World.{LeavesOnly}
-use Rattle.irtree_top.specs.Run.{EndsBy, EndsJob, HoldsPrefix, IsInputEnd, IsLimitOf, IsLimitReached, IsRunEnd, IsWholeInput, LacksRoomFor, LeavesInput, NamesBrokenRule, SaysFront}
+use Rattle.irtree_top.specs.Run.{EndsBy, EndsJob, HoldsPrefix, IsInputEnd, IsLimitOf, IsLimitReached, IsRunEnd, IsWholeInput, LacksRoomFor, LeavesInput, NamesBrokenRule, ReadsNothing, SaysFront}
 use Rattle.run_outcome.specs.Turn.{Done}
 use Rattle.command_words.specs.Job.{Asked, asked_of}
 use Rattle.irtree_top.proofs.Jobs.{decided-front, job-front}
 use Rattle.irtree_top.proofs.Openings.{behind-opening, complete-end}
-use Rattle.irtree_top.proofs.Upgrades.{no-job, no-upgrade, no-words, settled-upgrade}
+use Rattle.irtree_top.proofs.Upgrades.{asked-same, no-job, no-upgrade, no-words, settled-upgrade}
+use Rattle.irtree_top.proofs.Verified.{upgrade-unread}
+use Rattle.irtree_top.specs.Verify.{TellsBroken}
+use Rattle.command_words.specs.declared.job.Action.TheVariants as actions
+use Rattle.run_outcome.specs.declared.ended.StoreFault.TheVariants as stores
 use Rattle.irtree_top.proofs.top.run.Goals as goal
 
 pub returns-in-Ok-run_job-clause-done : goal.returns-in-Ok-run_job-clause-done
@@ -99,12 +103,12 @@ returns-in-Ok-clause-reached g c = λ asked wants readable told fault is.
 pub returns-in-Ok-run_job-clause-unread : goal.returns-in-Ok-run_job-clause-unread
 returns-in-Ok-run_job-clause-unread g c = λ asked wants makes.
     let same : asked_of c.in-Ok.job ≡ asked = cc (c.in-Ok.ensures.reading) in
-    ((c.in-Ok-run_job.ensures.unread (ap (λ (a : Asked). a.action) same ∙ makes)).0, tt)
+    ((c.in-Ok-run_job.ensures.unread (subst (λ (a : Asked). ReadsNothing a.action) (sym same) makes)).0, tt)
 
 pub returns-in-Ok-clause-unread : goal.returns-in-Ok-clause-unread
 returns-in-Ok-clause-unread g c = λ asked wants makes.
     let same : asked_of c.in-Ok.job ≡ asked = cc (c.in-Ok.ensures.reading) in
-    c.in-Err.ensures.unread (ap (λ (a : Asked). a.action) same ∙ makes)
+    c.in-Err.ensures.unread (subst (λ (a : Asked). ReadsNothing a.action) (sym same) makes)
 
 pub returns-in-Ok-run_job-clause-disk_told : goal.returns-in-Ok-run_job-clause-disk_told
 returns-in-Ok-run_job-clause-disk_told g c = λ other. c.in-Ok-run_job.ensures.cause.keeps.disk (λ e. absurd (cc))
@@ -335,3 +339,33 @@ returns-in-Upgrade-clause-upgrade_complete g c = λ asked wants. c.run_upgrade.e
 pub returns-in-Upgrade-clause-settled : goal.returns-in-Upgrade-clause-settled
 returns-in-Upgrade-clause-settled g c = λ source disk sink.
     settled-upgrade c.run_upgrade.result c.run_upgrade.ensures.ends (λ is. disk (c.run_upgrade.ensures.disk_cause is)) (λ is. sink (c.run_upgrade.ensures.sink_cause is))
+
+-- ---- a check
+
+pub returns-in-Ok-run_job-clause-verified : goal.returns-in-Ok-run_job-clause-verified
+returns-in-Ok-run_job-clause-verified g c = λ asked wants verifies told is.
+    let same : asked_of c.in-Ok.job ≡ asked = cc (c.in-Ok.ensures.reading) in
+    c.in-Ok-run_job.ensures.verified (ap (λ (a : Asked). a.action) same ∙ verifies) told
+
+pub returns-in-Ok-clause-verified : goal.returns-in-Ok-clause-verified
+returns-in-Ok-clause-verified g c = λ asked wants verifies told is.
+    absurd (subst (λ (e : Ended). IsRunEnd g.T.Disk.readable (g.S.Source.faults c.args.source.now) (g.S.Source.faults c.run_job.new.source) (g.T.Disk.world c.args.station.now) (g.T.Disk.world c.run_job.new.station) e) is c.in-Err.ensures.cause.cause)
+
+pub returns-in-Ok-run_job-clause-named : goal.returns-in-Ok-run_job-clause-named
+returns-in-Ok-run_job-clause-named g c = λ asked wants verifies told damage is. absurd (cc)
+
+pub returns-in-Ok-clause-named : goal.returns-in-Ok-clause-named
+returns-in-Ok-clause-named g c = λ asked wants verifies told damage is.
+    let same : asked_of c.in-Ok.job ≡ asked = cc (c.in-Ok.ensures.reading) in
+    c.run_job.ensures.named (ap (λ (a : Asked). a.action) same ∙ verifies) told damage (cc)
+
+pub returns-in-Upgrade-clause-unread : goal.returns-in-Upgrade-clause-unread
+returns-in-Upgrade-clause-unread g c = λ asked wants unread. (refl, upgrade-unread c.run_upgrade.result c.run_upgrade.ensures.ends)
+
+pub returns-in-Upgrade-clause-verified : goal.returns-in-Upgrade-clause-verified
+returns-in-Upgrade-clause-verified g c = λ asked wants verifies told is.
+    let other : actions.Upgrade ≡ actions.Verify = sym c.in-Upgrade.is ∙ ap (λ (a : Asked). a.action) (asked-same _ _ asked c.in-Ok.ensures.reading wants) ∙ verifies in absurd (cc)
+
+pub returns-in-Upgrade-clause-named : goal.returns-in-Upgrade-clause-named
+returns-in-Upgrade-clause-named g c = λ asked wants verifies told damage is.
+    let other : actions.Upgrade ≡ actions.Verify = sym c.in-Upgrade.is ∙ ap (λ (a : Asked). a.action) (asked-same _ _ asked c.in-Ok.ensures.reading wants) ∙ verifies in absurd (cc)

@@ -11,8 +11,8 @@ pub loop-row-init : goal.loop-row-init
 loop-row-init c = taken-none c.args.numbers.now c.args.held.now
 
 pub returns-then-run-eq0 : goal.returns-then-run-eq0
-returns-then-run-eq0 c =
-    let apart = run-apart c.args.numbers.now c.loop-row.row-index c.loop-row.at c.row-item.result c.args.held.now c.run_of-run.result c.requires (omega arith) c.row-item.is c.loop-row.invariant
+returns-then-run-eq0 c = λ ascend.
+    let apart = run-apart c.args.numbers.now c.loop-row.row-index c.loop-row.at c.row-item.result c.args.held.now c.run_of-run.result ascend (omega arith) c.row-item.is c.loop-row.invariant
     (run c.from_place.result.now (drop c.loop-row.at c.args.held.now) c.row-item.result.0 c.run_of-run.result c.from_place.ensures
     (record { within = c.run_of-run.ensures.within; same = c.run_of-run.ensures.same; other = c.run_of-run.ensures.other })) in (
       (λ never. absurd (cc)),
@@ -29,7 +29,7 @@ loop-row-preserved c =
     (record { within = c.run_of-run.ensures.within; same = c.run_of-run.ensures.same; other = c.run_of-run.ensures.other })) c.if-run-row.false c.if-run-eq0.false
 
 pub returns : goal.returns
-returns c =
+returns c = λ ascend.
     let all = taken-all c.args.numbers.now c.loop-row.row-index c.loop-row.at c.args.held.now (omega arith) c.loop-row.invariant in (
       (λ same. all.0 (eqb-true c.loop-row.at _ same)),
       (λ is. eq-eqb c.loop-row.at _ (all.1 is)),

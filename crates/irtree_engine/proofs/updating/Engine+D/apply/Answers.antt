@@ -5,6 +5,7 @@ use Rattle.page_face.specs.FreeList.{PageMap}
 use Rattle.page_face.specs.declared.head.Head.{Head}
 use Rattle.page_store.specs.declared.superblock.Superblock.{Superblock}
 use Rattle.page_store.specs.Store.{Kept, Rests, rests_then}
+use Rattle.page_store.specs.Superblock.{IsInRange}
 use Rattle.page_store.specs.Takes.{counts_of}
 use Rattle.page_store.specs.Contents.{Overlay, counted_pages, shown}
 use Rattle.place_values.specs.Update.{effect_of}
@@ -139,3 +140,11 @@ returns-in-Ok-commit-clause-absent g c = λ t is.
     let same : c.update.new.head ≡ c.update.new.pages.current.head = c.in-Ok-update.ensures.absent is ∙ c.head-head.ensures ∙ ap (λ (k : Kept). k.head) (sym follows.kept) in
     subst (λ disk. Rests (g.D.Disk.world disk) new) (λ i. (c.begin.ensures.disk i).now)
     (rests_then (follows.rests t) (c.commit.ensures.idle t (ap (λ (h : Head). h.number) same)))
+
+pub commit-requires-clause-last : goal.commit-requires-clause-last
+commit-requires-clause-last g c =
+    let last = ap (λ (k : Kept). k.last) c.update.ensures.frame.follows.kept ∙ c.begin.ensures.last ∙ sym c.args.self.now.settled in
+    subst IsInRange (sym last) c.args.self.now.in_range
+
+pub commit-requires-clause-in_range : goal.commit-requires-clause-in_range
+commit-requires-clause-in_range g c = c.in-Ok-update.ensures.in_range

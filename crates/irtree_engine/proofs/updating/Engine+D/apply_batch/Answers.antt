@@ -6,6 +6,7 @@ use Rattle.page_face.specs.FreeList.{PageMap}
 use Rattle.page_face.specs.declared.head.Head.{Head}
 use Rattle.page_store.specs.declared.superblock.Superblock.{Superblock}
 use Rattle.page_store.specs.Store.{Kept}
+use Rattle.page_store.specs.Superblock.{IsInRange}
 use Rattle.page_store.specs.Takes.{counts_of}
 use Rattle.page_store.specs.Contents.{Overlay, counted_pages, shown}
 use Rattle.store_model.specs.Stands.{PagesStand}
@@ -106,3 +107,11 @@ update_all-requires-clause-numbers g c = subst AreHeadNumbers (sym (c.head-head.
 pub returns-in-Err-update_all-clause-no_head : goal.returns-in-Err-update_all-clause-no_head
 returns-in-Err-update_all-clause-no_head g c = λ t damage is.
     c.in-Err-update_all.ensures.no_head (λ p. store-told g.D.Disk.readable (applied (g.D.Disk.world p.disk.now).seen) p.overlay p.current.counted t p.sized) damage is
+
+pub commit-requires-clause-last : goal.commit-requires-clause-last
+commit-requires-clause-last g c =
+    let last = ap (λ (k : Kept). k.last) c.update_all.ensures.frame.follows.kept ∙ c.begin.ensures.last ∙ sym c.args.self.now.settled in
+    subst IsInRange (sym last) c.args.self.now.in_range
+
+pub commit-requires-clause-in_range : goal.commit-requires-clause-in_range
+commit-requires-clause-in_range g c = c.in-Ok-update_all.ensures.in_range

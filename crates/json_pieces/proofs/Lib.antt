@@ -1,0 +1,6 @@
+pub mod Attempts
+pub mod Bytes
+pub mod Cuts
+pub mod Feeds
+pub mod Frames
+pub mod Runs

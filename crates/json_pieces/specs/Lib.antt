@@ -1,0 +1,3 @@
+pub mod Feeding
+pub mod Named
+pub mod Reader
