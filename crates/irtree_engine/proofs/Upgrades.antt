@@ -18,7 +18,7 @@ use Rattle.page_store.proofs.Overlays.{cleared_contents}
 use Rattle.place_values.specs.State as states
 use Rattle.store_model.specs.Stands.{PagesStand, Stands}
 use Rattle.store_model.proofs.Images.{area-one}
-use Rattle.store_upgrade.specs.Version1.{PagesStandVersion1, StandsVersion1}
+use Rattle.table_updates.specs.Version1.{PagesStandVersion1, StandsVersion1}
 use Rattle.irtree_engine.specs.declared.fault.EngineFault.{EngineFault}
 use Rattle.irtree_engine.specs.declared.fault.EngineFault.TheVariants as engine
 use Rattle.irtree_engine.specs.Holding.{HasBrokenHead, IsForeign, IsVersion1, LeavesState, StandsForNone}

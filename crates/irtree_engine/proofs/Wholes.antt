@@ -7,8 +7,8 @@ use Rattle.page_store.specs.Contents.{IsCommitted, IsVersion1Page, contents_in, 
 use Rattle.page_store.specs.Superblock.{IsInRange}
 use Rattle.page_store.specs.declared.superblock.Superblock.{Superblock}
 use Rattle.store_model.proofs.Images.{area-one}
-use Rattle.store_rules.specs.Whole.{IsWhole}
-use Rattle.store_rules.proofs.Whole.{stands-whole, whole-stands}
+use Rattle.store_verify.specs.Whole.{IsWhole}
+use Rattle.store_verify.proofs.Whole.{stands-whole, whole-stands}
 use Rattle.irtree_engine.specs.Queries.{contents_held}
 use Rattle.irtree_engine.specs.Verified.{HoldsSome}
 

@@ -11,7 +11,7 @@ use Rattle.page_store.specs.declared.opening.OpenFault.TheVariants as opens
 use Rattle.page_store.specs.Superblock.{HasMagicOfVersion1, KeepsHeadOfVersion1}
 use Rattle.place_values.specs.State.{Contents}
 use Rattle.store_model.specs.Stands.{Stands}
-use Rattle.store_upgrade.specs.Version1.{StandsVersion1}
+use Rattle.table_updates.specs.Version1.{StandsVersion1}
 use Rattle.irtree_engine.specs.declared.fault.EngineFault.{EngineFault}
 use Rattle.irtree_engine.specs.declared.fault.EngineFault.TheVariants.{Disk, NotAStore, BadJournal, Damaged, NoRoom, Version1, Memory}
 use Rattle.irtree_engine.specs.Holding.{HasBrokenHead, IsOpenable}

@@ -3,7 +3,7 @@ use Rattle.disk_model.specs.World.{Image}
 use Rattle.page_face.specs.declared.fault.Damage.{Damage}
 use Rattle.place_values.specs.State.{Contents}
 use Rattle.store_model.specs.Stands.{Stands}
-use Rattle.store_rules.specs.Breaks.{IsBroken}
+use Rattle.store_verify.specs.Breaks.{IsBroken}
 use Rattle.irtree_engine.specs.Queries.{contents_held}
 
 -- the image stands for some state

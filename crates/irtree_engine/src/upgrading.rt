@@ -5,7 +5,7 @@ ghost use Rattle.page_journal.specs.Record.{IsBad, IsReady, StandsAlike};
 ghost use Rattle.page_store.specs.Store.{Rests};
 ghost use Rattle.place_values.specs.State.{Contents};
 ghost use Rattle.store_model.specs.Stands.{PagesStand};
-ghost use Rattle.store_upgrade.specs.Version1.{StandsVersion1};
+ghost use Rattle.table_updates.specs.Version1.{StandsVersion1};
 ghost use Rattle.irtree_engine.specs.Changes.{block_with};
 ghost use Rattle.irtree_engine.specs.Holding.{HoldsState, IsForeign, LeavesState};
 ghost use Rattle.irtree_engine.specs.Opening.{IsRecovered};
@@ -19,7 +19,7 @@ use disk_model::Station;
 use page_face::{Damage, Head, PageFault, Pages, Rule};
 use page_store::{OpenFault, Store, recover_version1};
 use std::alloc::Global;
-use store_upgrade::carry_over;
+use table_updates::carry_over;
 
 // A put into the new place map takes at most a page for each level, of which there are 256, and one for a new root.
 const TAKES_A_PLACE: u64 = 257;

@@ -8,7 +8,7 @@ use Rattle.page_store.specs.Contents as stores
 use Rattle.page_store.specs.Opening.{head_damage}
 use Rattle.store_model.specs.Stands.{Stands}
 use Rattle.place_values.specs.State.{Contents}
-use Rattle.store_rules.specs.Breaks.{IsBroken}
+use Rattle.store_verify.specs.Breaks.{IsBroken}
 use Rattle.irtree_engine.specs.Faults.{IsReadFault}
 use Rattle.irtree_engine.specs.Holding.{HasBrokenHead}
 use Rattle.irtree_engine.specs.Verified.{HoldsSome}

@@ -4,7 +4,7 @@ use Rattle.disk_model.specs.World.{World, Image, Rose, WritesNothing}
 use Rattle.page_journal.specs.Record.{IsBad}
 use Rattle.place_values.specs.State.{Contents}
 use Rattle.store_model.specs.Stands.{Stands}
-use Rattle.store_upgrade.specs.Version1.{StandsVersion1}
+use Rattle.table_updates.specs.Version1.{StandsVersion1}
 use Rattle.irtree_engine.specs.Holding.{HoldsState, IsForeign, IsOpenable}
 use Rattle.irtree_engine.specs.Upgrades.{IsOpenableVersion1, IsUpgradeDamage, StandsForNeither}
 use Rattle.run_outcome.specs.Said.{SaysFrontOf}

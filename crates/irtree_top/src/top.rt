@@ -3,7 +3,7 @@ ghost use Rattle.std.specs.Prelude.{◌≡◌, ◌≢◌, ◌≤◌, ◌⊎◌, 
 ghost use Rattle.disk_model.specs.World.{LeavesOnly, Rose};
 ghost use Rattle.page_journal.specs.Record.{IsReady};
 ghost use Rattle.place_values.specs.State.{Contents};
-ghost use Rattle.store_upgrade.specs.Version1.{StandsVersion1};
+ghost use Rattle.table_updates.specs.Version1.{StandsVersion1};
 ghost use Rattle.irtree_engine.specs.Holding.{HoldsState, IsOpenable};
 ghost use Rattle.irtree_engine.specs.Upgrades.{LacksRoomToCarry, StandsEither};
 ghost use Rattle.irtree_engine.specs.Verified.{HoldsSome};

@@ -4,7 +4,7 @@ ghost use Rattle.disk_model.specs.World.{HasSinkCause, LeavesOnly, LeavesOnlySee
 ghost use Rattle.page_journal.specs.Record.{IsReady};
 ghost use Rattle.place_values.specs.State.{Contents};
 ghost use Rattle.query_replies.specs.Written.{Adds};
-ghost use Rattle.store_upgrade.specs.Version1.{StandsVersion1};
+ghost use Rattle.table_updates.specs.Version1.{StandsVersion1};
 ghost use Rattle.irtree_engine.specs.Holding.{HoldsState};
 ghost use Rattle.irtree_engine.specs.Upgrades.{LacksRoomToCarry, StandsEither};
 ghost use Rattle.run_outcome.specs.Said.{SaysAll};

@@ -1,7 +1,6 @@
 use crate::paged_map_tests::{Change, Wide, change_four, take_four};
-use map_check::Check;
 use page_face::{Damage, MemoryPages, PageFault, Pages, Rule, free_page};
-use page_walks::{first_lost, walk_free};
+use page_walks::{Check, first_lost, walk_free};
 use paged_map::PagedMap;
 use std::alloc::Global;
 use std::collections::BTreeSet;

@@ -1,3 +1,10 @@
 pub mod Misuses
 pub mod Meetings
 pub mod Chains
+pub mod Nodes
+pub mod Fans
+pub mod Children
+pub mod Roots
+pub mod Uses
+pub mod Fills
+pub mod Heights

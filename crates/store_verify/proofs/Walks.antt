@@ -11,19 +11,19 @@ use Rattle.page_face.specs.declared.fault.Damage.{Damage}
 use Rattle.page_store.specs.declared.superblock.Superblock.{Superblock}
 use Rattle.btree_nodes.specs.Tree.{map_rows, map_uses}
 use Rattle.page_walks.specs.Met.{held}
-use Rattle.map_check.specs.Maps.{IsBadMap, IsBrokenMap, IsWholeMap}
+use Rattle.page_walks.specs.Maps.{IsBadMap, IsBrokenMap, IsWholeMap}
 use Rattle.rtree_nodes.specs.Pages.{node_of}
 use Rattle.rtree_nodes.specs.Stock.{rows_form}
 use Rattle.rtree_nodes.specs.Whole.{IsWell, tree_uses}
-use Rattle.row_check.specs.Names.{AreNamed, IsUnnamed}
+use Rattle.tree_check.specs.Names.{AreNamed, IsUnnamed}
 use Rattle.tree_check.specs.Damages.{IsBrokenTree}
 use Rattle.tree_check.specs.Nodes.{tree_pages}
 use Rattle.store_tables.specs.Holding.{numbers_form, places_form, texts_form}
-use Rattle.store_rules.specs.Breaks.{BreaksNumberRow, BreaksPlaceRow, BreaksTextRow, IsBroken}
-use Rattle.store_rules.specs.Tree.{node_uses}
-use Rattle.store_rules.specs.Whole.{store_uses}
-use Rattle.store_rules.proofs.Damages.{map-named, tree-named, value-named}
-use Rattle.store_rules.proofs.Named.{misused-named, stray-named}
+use Rattle.store_verify.specs.Breaks.{BreaksNumberRow, BreaksPlaceRow, BreaksTextRow, IsBroken}
+use Rattle.store_verify.specs.Tree.{node_uses}
+use Rattle.store_verify.specs.Whole.{store_uses}
+use Rattle.store_verify.proofs.Damages.{map-named, tree-named, value-named}
+use Rattle.store_verify.proofs.Named.{misused-named, stray-named}
 use Rattle.store_verify.specs.Walked.{IsTreeWalked}
 
 -- what holds of pages held before a call that only reads

@@ -28,17 +28,17 @@ use Rattle.store_tables.specs.Holding.{Holds}
 use Rattle.store_tables.specs.Words.{WordTablesAgree}
 use Rattle.store_model.specs.Stands.{tables_in}
 use Rattle.store_model.proofs.Maps.{ascending-holds}
-use Rattle.row_check.specs.Agreement.{AreRight, AreSound, IsFirstWrong, IsNodePage}
-use Rattle.row_check.proofs.Listed.{tree-listed}
-use Rattle.store_rules.specs.Breaks.{IsBroken, damage_at}
-use Rattle.store_rules.specs.Tree.{node_uses}
-use Rattle.store_rules.specs.Whole.{IsWhole, place_sum}
-use Rattle.store_rules.proofs.Checked.{rows-whole}
-use Rattle.store_rules.proofs.Missing.{row-named}
-use Rattle.store_agreement.specs.Sites.{AreApart, IsSite, Site, site_item, site_sum}
-use Rattle.store_agreement.specs.Words.{number_times}
-use Rattle.store_agreement.proofs.Held.{agree-places, places-agree}
-use Rattle.table_sinks.specs.Places.{sites_of}
+use Rattle.tree_check.specs.Agreement.{AreRight, AreSound, IsFirstWrong, IsNodePage}
+use Rattle.tree_check.proofs.Listed.{tree-listed}
+use Rattle.store_verify.specs.Breaks.{IsBroken, damage_at}
+use Rattle.store_verify.specs.Tree.{node_uses}
+use Rattle.store_verify.specs.Whole.{IsWhole, place_sum}
+use Rattle.store_verify.proofs.Checked.{rows-whole}
+use Rattle.store_verify.proofs.Missing.{row-named}
+use Rattle.store_verify.specs.Sites.{AreApart, IsSite, Site, site_item, site_sum}
+use Rattle.store_verify.specs.Words.{number_times}
+use Rattle.store_verify.proofs.Held.{agree-places, places-agree}
+use Rattle.store_verify.specs.Places.{sites_of}
 use Rattle.store_verify.specs.Walked.{IsStoreWalked}
 
 -- what is decided of words that are the same

@@ -1,3 +1,12 @@
-pub mod Sites
+pub mod EntrySums
 pub mod Verdicts
 pub mod Walked
+pub mod Breaks
+pub mod Tree
+pub mod Whole
+pub mod Sites
+pub mod Words
+pub mod Gains
+pub mod Laws
+pub mod Places
+pub mod PlaceLaws

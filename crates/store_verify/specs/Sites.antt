@@ -1,28 +1,33 @@
--- The entries in the leaves of a tree, page by page.
-use Rattle.std.specs.Prelude.{◌≡◌, ℕ, zero, suc, ◌<◌, List}
-use Rattle.page_face.specs.FreeList.{PageMap}
-use Rattle.btree_nodes.specs.Damages.{AreReadable}
-use Rattle.rtree_nodes.specs.Slots.{Item, NodeView, amount, filled}
-use Rattle.rtree_nodes.specs.Pages.{node_of, slots_in}
-use Rattle.rtree_nodes.specs.Whole.{IsWell}
-use Rattle.tree_check.specs.Nodes.{tree_pages}
+-- Where keys are: the entries of a tree's leaves, or places without their words.
+use Rattle.std.specs.Prelude.{◌≢◌, ℕ, List, sum_by, All}
+use Rattle.spatial_base.specs.Key.{Name, IsName, form_of}
+use Rattle.spatial_base.specs.Point.{Position, IsOnMap}
+use Rattle.place_values.specs.State.{IsSerialAbove}
+use Rattle.rtree_nodes.specs.Entries.{is_entry}
+use Rattle.rtree_nodes.specs.Reach.{place_item}
+use Rattle.rtree_nodes.specs.Slots.{Item}
 
--- the sum of f over the entries of a node of this level: those in a leaf's slots, and none in an inner node
-abbrev pub entry_sum : (Item → ℕ) → ℕ → NodeView → ℕ
-entry_sum f zero node = amount f node.slots
-entry_sum f (suc level) node = 0
+-- a key and the point where it is
+abbrev pub Site : Type 0
+Site = Name × Position
 
--- the sum of f over the entries in a page
-abbrev pub page_sum : (Item → ℕ) → List ℕ → ℕ
-page_sum f page = entry_sum f (node_of page).level (node_of page)
+-- of a key and a point on the map
+abbrev pub IsSite : Site → Type 0
+IsSite site = IsName site.0 × IsOnMap site.1.x site.1.y
 
--- the page is that of a node with an item, and none of those left out
-pub record IsFilledPage (out : ℕ → Type 0) (pages : PageMap) (page : ℕ) : Type 0 where
-  pub within : out page → ⊥
-  pub some : 0 < filled (slots_in (pages page))
+-- the entry in a leaf of a key at a point
+abbrev pub site_item : Site → Item
+site_item site = place_item site.1 (form_of site.0)
 
--- The list is that of the pages of a well-formed tree at a root, and all counted pages are readable.
-pub record AreTreePages (pages : PageMap) (count root : ℕ) (list : List ℕ) : Type 0 where
-  pub readable : AreReadable pages count
-  pub tree : IsWell node_of pages root
-  pub is : list ≡ tree_pages pages root
+-- the sum of f over the entries of sites
+abbrev pub site_sum : (Item → ℕ) → List Site → ℕ
+site_sum f sites = sum_by (λ (s : Site). f (site_item s)) sites
+
+-- some key at some point isn't equally often in both
+pub record AreApart (found places : List Site) : Type 0 where
+  pub site : Site
+  pub apart : site_sum (is_entry site.1 (form_of site.0)) found ≢ site_sum (is_entry site.1 (form_of site.0)) places
+
+-- each automatic key is below the next serial
+abbrev pub AreGiven : ℕ → List Site → Type 0
+AreGiven serial sites = All (λ (s : Site). IsSerialAbove serial s.0) sites

@@ -14,11 +14,11 @@ use Rattle.rtree_nodes.specs.Whole.{IsWell}
 use Rattle.tree_check.specs.Nodes.{tree_pages}
 use Rattle.store_tables.specs.Holding.{HoldsNumbers, HoldsTexts, table_uses}
 use Rattle.store_model.specs.Stands.{tables_in}
-use Rattle.row_check.specs.Names.{AreNamed}
-use Rattle.store_rules.specs.Tree.{node_uses}
-use Rattle.store_rules.specs.Whole.{outside, store_uses}
-use Rattle.store_agreement.specs.Sites.{Site}
-use Rattle.table_sinks.specs.Places.{HoldsSites}
+use Rattle.tree_check.specs.Names.{AreNamed}
+use Rattle.store_verify.specs.Tree.{node_uses}
+use Rattle.store_verify.specs.Whole.{outside, store_uses}
+use Rattle.store_verify.specs.Sites.{Site}
+use Rattle.store_verify.specs.Places.{HoldsSites}
 
 -- The tree and the map of its rows are well formed, and each row names a node. The list has the tree's pages, each after those below it.
 -- Exactly the pages of both were met, each of which is counted.

@@ -8,22 +8,24 @@ ghost use Rattle.row_codec.specs.declared.counted.Counted.{Counted as CountedRow
 ghost use Rattle.rtree_nodes.specs.Pages.{node_of};
 ghost use Rattle.rtree_nodes.specs.Slots.{Item};
 ghost use Rattle.rtree_nodes.specs.Whole.{tree_sum};
-ghost use Rattle.store_agreement.specs.Sites.{site_sum};
-ghost use Rattle.store_rules.specs.Breaks.{IsBroken, damage_at};
-ghost use Rattle.store_rules.specs.Whole.{IsWhole};
+ghost use Rattle.store_verify.specs.Sites.{site_sum};
+ghost use Rattle.store_verify.specs.Breaks.{IsBroken, damage_at};
+ghost use Rattle.store_verify.specs.Whole.{IsWhole};
 ghost use Rattle.store_verify.specs.Verdicts.{block_of};
 ghost use Rattle.store_verify.specs.Walked.{IsStoreWalked};
 
+use crate::counts::counts_agree;
+use crate::leaves::leaves_agree;
 use crate::sites::sites_of;
 use crate::walking::Entries;
+use crate::words::words_agree;
 use btree_nodes::damaged;
 use node_rows::Tree;
 use page_face::{Head, PageFault, Pages, Rule};
-use row_check::check_words;
 use spatial_base::{Key, Point};
 use std::alloc::Global;
-use store_agreement::{counts_agree, leaves_agree, words_agree};
 use store_tables::Tables;
+use tree_check::check_words;
 
 // Whether the entries of the leaves are those of the places, each once with its point.
 fn are_leaves<P: Pages>(

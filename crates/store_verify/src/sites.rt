@@ -7,8 +7,8 @@ ghost use Rattle.rtree_nodes.specs.Pages.{is_form, level_in, node_of, slots_in};
 ghost use Rattle.rtree_nodes.specs.Reach.{is_place, item_of};
 ghost use Rattle.rtree_nodes.specs.Slots.{Item, amount, filled, got};
 ghost use Rattle.rtree_nodes.specs.Whole.{tree_sum, tree_uses};
-ghost use Rattle.store_agreement.specs.Sites.{IsSite, site_item, site_sum};
-ghost use Rattle.store_verify.specs.Sites.{AreTreePages, IsFilledPage, page_sum};
+ghost use Rattle.store_verify.specs.Sites.{IsSite, site_item, site_sum};
+ghost use Rattle.store_verify.specs.EntrySums.{AreTreePages, IsFilledPage, page_sum};
 
 use btree_nodes::damaged;
 use page_face::{Damage, Page, PageFault, Pages, Rule};

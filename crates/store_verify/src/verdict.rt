@@ -4,8 +4,8 @@ ghost use Rattle.page_face.specs.Calls.{Reads, FailsReading};
 ghost use Rattle.page_face.specs.declared.fault.Damage.{Damage as Broken};
 ghost use Rattle.page_store.specs.Superblock.{IsInRange};
 ghost use Rattle.btree_nodes.specs.Damages.{AreReadable};
-ghost use Rattle.store_rules.specs.Breaks.{IsBroken};
-ghost use Rattle.store_rules.specs.Whole.{IsWhole};
+ghost use Rattle.store_verify.specs.Breaks.{IsBroken};
+ghost use Rattle.store_verify.specs.Whole.{IsWhole};
 ghost use Rattle.store_verify.specs.Verdicts.{block_of};
 
 use crate::comparing::compare;

@@ -8,22 +8,23 @@ ghost use Rattle.btree_nodes.specs.Damages.{AreReadable};
 ghost use Rattle.btree_nodes.specs.Tree.{map_uses};
 ghost use Rattle.rtree_nodes.specs.Stock.{rows_form};
 ghost use Rattle.page_walks.specs.Met.{held};
-ghost use Rattle.store_rules.specs.Breaks.{IsBroken};
-ghost use Rattle.store_rules.specs.Tree.{node_uses};
-ghost use Rattle.store_rules.specs.Whole.{store_uses};
+ghost use Rattle.store_verify.specs.Breaks.{IsBroken};
+ghost use Rattle.store_verify.specs.Tree.{node_uses};
+ghost use Rattle.store_verify.specs.Whole.{store_uses};
 ghost use Rattle.store_verify.specs.Verdicts.{block_of};
 ghost use Rattle.store_verify.specs.Walked.{AreTablesWalked, AreUsedOrFree, IsTreeWalked};
 
+use crate::numbers::numbers_of;
+use crate::places::{Gathered, places_of};
+use crate::texts::texts_of;
 use btree_nodes::damaged;
 use page_face::{Head, PageFault, Pages, Rule};
 use page_walks::{first_lost, walk_free};
-use row_check::check_rows;
 use row_codec::Counted;
 use std::alloc::{AllocError, Global};
 use std::collections::BTreeSet;
-use table_sinks::{Gathered, numbers_of, places_of, texts_of};
 use term_impacts::Word;
-use tree_check::check_nodes;
+use tree_check::{check_nodes, check_rows};
 
 /// The pages of the tree, and the pages met so far.
 #[derive(Drop)]

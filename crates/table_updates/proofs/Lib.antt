@@ -4,3 +4,10 @@ pub mod Known
 pub mod Numbers
 pub mod Shown
 pub mod Turns
+pub mod Beside
+pub mod Between
+pub mod Damages
+pub mod Firsts
+pub mod Orders
+pub mod Roots
+pub mod Values

@@ -1,3 +1,13 @@
 pub mod Placed
 pub mod Slots
 pub mod Trees
+pub mod Ascents
+pub mod Columns
+pub mod Joined
+pub mod Listed
+pub mod Named
+pub mod Rights
+pub mod Counts
+pub mod Few
+pub mod Many
+pub mod Sums

@@ -11,7 +11,7 @@ use Rattle.page_face.specs.declared.fault.PageFault.TheVariants as pages
 use Rattle.place_values.specs.State as states
 use Rattle.store_model.specs.Stands.{PagesStand}
 use Rattle.store_model.proofs.Changes.{live-before}
-use Rattle.store_upgrade.specs.Version1.{PagesStandVersion1, StandsVersion1}
+use Rattle.table_updates.specs.Version1.{PagesStandVersion1, StandsVersion1}
 use Rattle.irtree_engine.specs.Changes.{block_with}
 use Rattle.irtree_engine.specs.Upgrades.{LeavesEither}
 use Rattle.irtree_engine.specs.declared.fault.EngineFault.TheVariants as engine

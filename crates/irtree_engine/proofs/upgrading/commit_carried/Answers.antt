@@ -5,7 +5,7 @@ use Rattle.page_store.specs.Contents.{Contents, HoldsOneOf, contents_in, content
 use Rattle.page_store.specs.declared.superblock.Superblock.{Superblock}
 use Rattle.place_values.specs.State as states
 use Rattle.store_model.specs.Stands.{PagesStand, Stands}
-use Rattle.store_upgrade.specs.Version1.{StandsVersion1}
+use Rattle.table_updates.specs.Version1.{StandsVersion1}
 use Rattle.irtree_engine.specs.Changes.{block_with}
 use Rattle.irtree_engine.specs.Upgrades.{LeavesEither}
 use Rattle.irtree_engine.proofs.Commits.{commit-stands, told-stand}

@@ -3,7 +3,7 @@ use Rattle.std.specs.Prelude.{IsErrOf}
 use Rattle.disk_model.specs.World.{LeavesOnly}
 use Rattle.disk_model.proofs.Moments.{then, within}
 use Rattle.place_values.specs.State as states
-use Rattle.store_upgrade.specs.Version1.{StandsVersion1}
+use Rattle.table_updates.specs.Version1.{StandsVersion1}
 use Rattle.irtree_engine.specs.Opening.{IsRecovered, LeavesRefused}
 use Rattle.irtree_engine.specs.Upgrades.{LeavesEither}
 use Rattle.irtree_engine.specs.declared.fault.EngineFault.{EngineFault}

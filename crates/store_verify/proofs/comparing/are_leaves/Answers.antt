@@ -4,9 +4,9 @@ use Rattle.std.specs.Prelude.{All}
 use Rattle.page_face.specs.FreeList.{PageMap}
 use Rattle.page_store.specs.declared.superblock.Superblock.{Superblock}
 use Rattle.rtree_nodes.specs.Slots.{Item}
-use Rattle.store_agreement.specs.Sites.{IsSite, Site, site_sum}
+use Rattle.store_verify.specs.Sites.{IsSite, Site, site_sum}
 use Rattle.store_verify.specs.Verdicts.{block_of}
-use Rattle.store_verify.specs.Sites.{AreTreePages}
+use Rattle.store_verify.specs.EntrySums.{AreTreePages}
 use Rattle.store_verify.proofs.Wholes.{are-sites, entry-broken, sites-ascend}
 use Rattle.store_verify.proofs.comparing.are_leaves.Goals as goal
 

@@ -9,8 +9,8 @@ use Rattle.row_codec.specs.declared.counted.Counted.{Counted}
 use Rattle.rtree_nodes.specs.Pages.{node_of}
 use Rattle.rtree_nodes.specs.Slots.{Item}
 use Rattle.rtree_nodes.specs.Whole.{tree_sum}
-use Rattle.store_agreement.specs.Sites.{AreGiven, Site, site_sum}
-use Rattle.store_rules.specs.Breaks.{IsBroken, damage_at}
+use Rattle.store_verify.specs.Sites.{AreGiven, Site, site_sum}
+use Rattle.store_verify.specs.Breaks.{IsBroken, damage_at}
 use Rattle.store_verify.specs.Verdicts.{block_of}
 use Rattle.store_verify.specs.Walked.{IsStoreWalked}
 use Rattle.store_verify.proofs.Walks.{stayed, stays}

@@ -1,8 +1,8 @@
 use Rattle.std.proofs.Common.{◌≡◌, ◌+◌, ◌∙◌, ℕ, arith, ap}
 use Rattle.rtree_nodes.specs.Pages.{slots_in}
 use Rattle.rtree_nodes.specs.Slots.{got}
-use Rattle.store_agreement.specs.Sites.{site_sum}
-use Rattle.store_verify.proofs.Leaves.{slots-none, slots-more, slots-all}
+use Rattle.store_verify.specs.Sites.{site_sum}
+use Rattle.store_verify.proofs.NodeEntries.{slots-none, slots-more, slots-all}
 use Rattle.store_verify.proofs.sites.add_leaf.Goals as goal
 
 pub loop-at-init : goal.loop-at-init

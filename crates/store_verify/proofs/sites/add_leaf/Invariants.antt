@@ -1,7 +1,7 @@
 use Rattle.std.proofs.Common.{◌≡◌, ℕ, ◌+◌, All, true}
 use Rattle.rtree_nodes.specs.Pages.{is_form, level_in, slots_in}
 use Rattle.rtree_nodes.specs.Slots.{Item, got, sum_to}
-use Rattle.store_agreement.specs.Sites.{IsSite, site_sum}
+use Rattle.store_verify.specs.Sites.{IsSite, site_sum}
 use Rattle.store_verify.proofs.sites.add_leaf.Given as goal
 
 abbrev pub invariant-loop-at : goal.invariant-loop-at

@@ -2,9 +2,9 @@ use Rattle.std.proofs.Common.{◌≡◌, ◌+◌, ◌∙◌, ℕ, arith, ap, sym
 use Rattle.std.proofs.lemmas.Result.{on_ok_weaker}
 use Rattle.rtree_nodes.specs.Pages.{level_in}
 use Rattle.rtree_nodes.proofs.Bounding.{some-form}
-use Rattle.store_agreement.specs.Sites.{site_sum}
-use Rattle.store_verify.specs.Sites.{page_sum}
-use Rattle.store_verify.proofs.Leaves.{leaf-sum, inner-sum, header-apart}
+use Rattle.store_verify.specs.Sites.{site_sum}
+use Rattle.store_verify.specs.EntrySums.{page_sum}
+use Rattle.store_verify.proofs.NodeEntries.{leaf-sum, inner-sum, header-apart}
 use Rattle.store_verify.proofs.sites.add_node.Goals as goal
 
 pub returns-then-head-eq0-clause-sum : goal.returns-then-head-eq0-clause-sum

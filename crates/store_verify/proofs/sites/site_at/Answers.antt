@@ -1,6 +1,6 @@
 use Rattle.std.proofs.Common.{◌∙◌}
 use Rattle.rtree_nodes.specs.Pages.{level_in}
-use Rattle.store_verify.proofs.Leaves.{slot-place}
+use Rattle.store_verify.proofs.NodeEntries.{slot-place}
 use Rattle.store_verify.proofs.sites.site_at.Goals as goal
 
 pub returns-in-Ok-clause-site : goal.returns-in-Ok-clause-site

@@ -10,9 +10,9 @@ use Rattle.page_walks.proofs.Chains.{readable}
 use Rattle.rtree_nodes.specs.Pages.{is_form}
 use Rattle.rtree_nodes.proofs.Bounding.{some-form}
 use Rattle.tree_check.specs.Nodes.{tree_pages}
-use Rattle.store_agreement.specs.Sites.{site_sum}
-use Rattle.store_verify.specs.Sites.{IsFilledPage, page_sum}
-use Rattle.store_verify.proofs.Leaves.{node-on, pages-more, tree-nodes, tree-sums}
+use Rattle.store_verify.specs.Sites.{site_sum}
+use Rattle.store_verify.specs.EntrySums.{IsFilledPage, page_sum}
+use Rattle.store_verify.proofs.NodeEntries.{node-on, pages-more, tree-nodes, tree-sums}
 use Rattle.store_verify.proofs.sites.sites_of.Goals as goal
 
 pub returns-in-Err-clause-no_false_damage : goal.returns-in-Err-clause-no_false_damage

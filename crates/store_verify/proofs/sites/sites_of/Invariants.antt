@@ -3,8 +3,8 @@ use Rattle.std.specs.Prelude.{sum_by}
 use Rattle.page_face.specs.Calls.{Reads}
 use Rattle.btree_nodes.specs.Damages.{AreReadable}
 use Rattle.rtree_nodes.specs.Slots.{Item}
-use Rattle.store_agreement.specs.Sites.{IsSite, site_sum}
-use Rattle.store_verify.specs.Sites.{IsFilledPage, page_sum}
+use Rattle.store_verify.specs.Sites.{IsSite, site_sum}
+use Rattle.store_verify.specs.EntrySums.{IsFilledPage, page_sum}
 use Rattle.store_verify.proofs.sites.sites_of.Given as goal
 
 abbrev pub invariant-loop-page : goal.invariant-loop-page

@@ -7,8 +7,8 @@ use Rattle.page_store.specs.Superblock.{IsInRange}
 use Rattle.btree_nodes.specs.Damages.{AreReadable}
 use Rattle.page_walks.specs.Met.{held}
 use Rattle.page_walks.proofs.Chains.{readable}
-use Rattle.store_rules.specs.Breaks.{IsBroken}
-use Rattle.store_rules.specs.Whole.{IsWhole, store_uses}
+use Rattle.store_verify.specs.Breaks.{IsBroken}
+use Rattle.store_verify.specs.Whole.{IsWhole, store_uses}
 use Rattle.store_verify.specs.Verdicts.{block_of}
 use Rattle.store_verify.specs.Walked.{AreTablesWalked, AreUsedOrFree, IsStoreWalked}
 use Rattle.store_verify.proofs.Walks.{stayed, stays}

@@ -1,6 +1,6 @@
 use Rattle.std.proofs.Common.{ℕ, Err, refl, ap, subst, arith}
 use Rattle.page_store.specs.Superblock.{IsInRange}
-use Rattle.store_rules.proofs.Apart.{broken-apart}
+use Rattle.store_verify.proofs.Apart.{broken-apart}
 use Rattle.store_verify.specs.Verdicts.{block_of}
 use Rattle.store_verify.proofs.verdict.verify.Goals as goal
 

@@ -4,13 +4,13 @@ use Rattle.page_store.specs.declared.superblock.Superblock.{Superblock}
 use Rattle.btree_nodes.proofs.Walks.{same-fault}
 use Rattle.page_walks.proofs.Misuses.{same-damage}
 use Rattle.page_walks.specs.Met.{held}
-use Rattle.store_rules.specs.Breaks.{IsBroken}
+use Rattle.store_verify.specs.Breaks.{IsBroken}
 use Rattle.store_verify.specs.Verdicts.{block_of}
 use Rattle.std.proofs.Math.Path.{fun_ext}
 use Rattle.page_walks.specs.Chains.{IsBrokenChain}
 use Rattle.page_walks.specs.Met.{IsFirstUnmet}
 use Rattle.page_walks.proofs.Chains.{free-known}
-use Rattle.store_rules.proofs.Named.{chain-named, lost-named, once-met}
+use Rattle.store_verify.proofs.Named.{chain-named, lost-named, once-met}
 use Rattle.store_verify.proofs.walking.walk_free_pages.Goals as goal
 
 pub returns-in-Err-clause-damaged : goal.returns-in-Err-clause-damaged

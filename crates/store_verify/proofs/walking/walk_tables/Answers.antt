@@ -6,13 +6,13 @@ use Rattle.btree_nodes.proofs.Walks.{same-fault}
 use Rattle.page_walks.proofs.Misuses.{same-damage}
 use Rattle.page_walks.proofs.Chains.{readable}
 use Rattle.page_walks.specs.Met.{held}
-use Rattle.store_rules.specs.Breaks.{IsBroken}
+use Rattle.store_verify.specs.Breaks.{IsBroken}
 use Rattle.store_verify.specs.Verdicts.{block_of}
 use Rattle.std.specs.Prelude.{Result, Ok, OnOk}
 use Rattle.btree_nodes.specs.Tree.{map_uses}
-use Rattle.map_check.specs.Maps.{IsBadMap}
+use Rattle.page_walks.specs.Maps.{IsBadMap}
 use Rattle.store_tables.specs.Holding.{numbers_form, texts_form}
-use Rattle.store_rules.specs.Breaks.{BreaksNumberRow, BreaksTextRow}
+use Rattle.store_verify.specs.Breaks.{BreaksNumberRow, BreaksTextRow}
 use Rattle.page_face.proofs.Frames.{reads_then}
 use Rattle.store_verify.proofs.Walks.{numbers-broken, places-broken, stayed, texts-broken}
 use Rattle.store_verify.proofs.walking.walk_tables.Goals as goal

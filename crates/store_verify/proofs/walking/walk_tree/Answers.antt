@@ -6,13 +6,13 @@ use Rattle.btree_nodes.proofs.Walks.{same-fault}
 use Rattle.page_walks.proofs.Misuses.{same-damage}
 use Rattle.page_walks.proofs.Chains.{readable}
 use Rattle.page_walks.specs.Met.{held}
-use Rattle.store_rules.specs.Breaks.{IsBroken}
+use Rattle.store_verify.specs.Breaks.{IsBroken}
 use Rattle.store_verify.specs.Verdicts.{block_of}
 use Rattle.std.specs.Prelude.{◌⊎◌, IfNone, Option}
 use Rattle.btree_nodes.specs.Tree.{map_rows, map_uses}
-use Rattle.map_check.specs.Maps.{IsBrokenMap, IsWholeMap}
+use Rattle.page_walks.specs.Maps.{IsBrokenMap, IsWholeMap}
 use Rattle.rtree_nodes.specs.Stock.{rows_form}
-use Rattle.row_check.specs.Names.{AreNamed, IsUnnamed}
+use Rattle.tree_check.specs.Names.{AreNamed, IsUnnamed}
 use Rattle.tree_check.specs.Nodes.{tree_pages}
 use Rattle.store_verify.proofs.Walks.{rows-broken, stayed, tree-broken, tree-walked}
 use Rattle.store_verify.proofs.walking.walk_tree.Goals as goal

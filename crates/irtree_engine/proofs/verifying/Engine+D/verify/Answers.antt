@@ -8,8 +8,8 @@ use Rattle.page_face.specs.declared.head.Head.{Head}
 use Rattle.page_store.specs.Contents as stores
 use Rattle.page_store.specs.Contents.{Overlay, counted_pages, shown}
 use Rattle.page_store.specs.Superblock.{IsInRange}
-use Rattle.store_rules.specs.Breaks.{BreaksRule, IsBroken}
-use Rattle.store_rules.specs.Whole.{IsWhole}
+use Rattle.store_verify.specs.Breaks.{BreaksRule, IsBroken}
+use Rattle.store_verify.specs.Whole.{IsWhole}
 use Rattle.store_verify.specs.Verdicts.{block_of}
 use Rattle.store_verify.specs.declared.verdict.Verdict.TheVariants.{Whole}
 use Rattle.irtree_engine.specs.declared.fault.EngineFault.TheVariants.{Damaged}

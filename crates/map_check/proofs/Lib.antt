@@ -1,4 +1,0 @@
-pub mod Nodes
-pub mod Fans
-pub mod Children
-pub mod Roots

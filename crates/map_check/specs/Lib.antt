@@ -1,4 +1,0 @@
-pub mod Beneath
-pub mod Leaves
-pub mod Maps
-pub mod Walks

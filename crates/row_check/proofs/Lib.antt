@@ -1,6 +1,0 @@
-pub mod Ascents
-pub mod Columns
-pub mod Joined
-pub mod Listed
-pub mod Named
-pub mod Rights

@@ -1,4 +1,0 @@
-pub mod Agreement
-pub mod Columns
-pub mod Names
-pub mod Laws

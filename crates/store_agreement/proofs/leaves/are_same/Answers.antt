@@ -1,5 +1,0 @@
-use Rattle.store_agreement.proofs.Places.{sites-decide}
-use Rattle.store_agreement.proofs.leaves.are_same.Goals as goal
-
-pub returns : goal.returns
-returns c = sites-decide c.args.sites.now c.args.others.now c.eq.result c.eq.ensures

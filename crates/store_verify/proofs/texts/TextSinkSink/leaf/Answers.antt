@@ -1,0 +1,32 @@
+use Rattle.std.proofs.Common.{◌≡◌, ◌<◌, arith, rules}
+use Rattle.page_face.specs.Nodes.{count_of}
+use Rattle.btree_nodes.specs.Nodes.{rows_in}
+use Rattle.term_impacts.specs.Form.{IsWordText}
+use Rattle.row_codec.specs.Counted.{number_bytes}
+use Rattle.store_tables.specs.Coded.{IsU64, word_code}
+use Rattle.store_tables.specs.Holding.{texts_form}
+use Rattle.store_verify.proofs.Steps.{bad-row, gains-all, gains-good, gains-row}
+use Rattle.store_verify.proofs.texts.TextSinkSink.leaf.Goals as goal
+
+pub returns-in-None-clause-breaks : goal.returns-in-None-clause-breaks
+returns-in-None-clause-breaks c rule e =
+    let inside : c.loop-at.at < count_of c.args.page.now = omega (arith, c.loop-at-test.true, c.requires.count) in
+    (cc e, bad-row word_code number_bytes IsWordText IsU64 texts_form c.args.page.now c.loop-at.at inside (λ entry is row. (let no = c.in-None.ensures.every entry is row in cc no)))
+
+pub loop-at-preserved : goal.loop-at-preserved
+loop-at-preserved c =
+    let inside : c.loop-at.at < count_of c.args.page.now = omega (arith, c.loop-at-test.true, c.requires.count) in
+    let row = c.in-Some.ensures.form in
+    gains-row word_code number_bytes IsWordText IsU64 texts_form c.args.page.now c.loop-at.at c.args.self.now.rows.items c.loop-at.self.rows.items c.push.new.self.items
+    c.in-Some.row inside c.loop-at.invariant row.0 row.1 (search rules)
+
+pub returns-clause-takes : goal.returns-clause-takes
+returns-clause-takes c =
+    let all : c.loop-at.at ≡ count_of c.args.page.now = omega (arith, c.loop-at.auto.at-end, c.loop-at-test.false, c.requires.count) in
+    gains-all word_code number_bytes IsWordText IsU64 texts_form c.args.page.now c.loop-at.at c.args.self.now.rows.items c.loop-at.self.rows.items all c.loop-at.invariant
+
+pub returns-clause-good : goal.returns-clause-good
+returns-clause-good c =
+    let all : c.loop-at.at ≡ count_of c.args.page.now = omega (arith, c.loop-at.auto.at-end, c.loop-at-test.false, c.requires.count) in
+    gains-good word_code number_bytes IsWordText IsU64 texts_form c.args.page.now (rows_in texts_form c.args.page.now) c.args.self.now.rows.items c.loop-at.self.rows.items
+    (gains-all word_code number_bytes IsWordText IsU64 texts_form c.args.page.now c.loop-at.at c.args.self.now.rows.items c.loop-at.self.rows.items all c.loop-at.invariant)

@@ -1,4 +1,0 @@
-pub mod Gains
-pub mod Laws
-pub mod Places
-pub mod PlaceLaws

@@ -1,8 +1,0 @@
-use Rattle.tree_sizes.proofs.Many.{levels-few, levels-fewer}
-use Rattle.tree_sizes.proofs.laws.levels_are_few.Goals as goal
-
-pub returns-clause-state : goal.returns-clause-state
-returns-clause-state c = levels-few
-
-pub returns-clause-limit : goal.returns-clause-limit
-returns-clause-limit c = levels-fewer

@@ -1,8 +1,0 @@
-use Rattle.tree_sizes.proofs.Counts.{pages-most, pages-all}
-use Rattle.tree_sizes.proofs.laws.pages_are_nodes.Goals as goal
-
-pub returns-clause-most : goal.returns-clause-most
-returns-clause-most c = pages-most
-
-pub returns-clause-all : goal.returns-clause-all
-returns-clause-all c = pages-all
