@@ -263,6 +263,8 @@ rp 1 5 new|: Input/output error (os error 5); look at its disk
 wj 1 0 new|.journal: failed to write whole buffer; look at its disk
 wj 1 28 new|.journal: No space left on device (os error 28); make room
 wp 1 27 new|: File too large (os error 27); raise the limit
+mp 2 5 new|: Input/output error (os error 5); look at its disk
+mj 3 5 new|.journal: Input/output error (os error 5); look at its disk
 sp 1 5 new|: Input/output error (os error 5); look at its disk
 sj 1 5 new|.journal: Input/output error (os error 5); look at its disk
 lp 1 95 new|
@@ -335,14 +337,15 @@ fn each_call_that_fails_is_passed_over_or_named(rt: HostRuntime) -> Result<(), F
     Ok(())
 }
 
+const NONE_FAILS: Plan = Plan {
+    call: "",
+    nth: 0,
+    code: 0,
+};
+
 // Whether a store is filled with exactly these calls.
 fn calls_so(rt: &HostRuntime, store: &str, calls: &str) -> Result<bool, Memory> {
-    let none = Plan {
-        call: "",
-        nth: 0,
-        code: 0,
-    };
-    let notes = Notes::new(Vec::new(rt.alloc()), none);
+    let notes = Notes::new(Vec::new(rt.alloc()), NONE_FAILS);
     let watched = Watched { rt, notes: &notes };
     let mut station = FileStation::new(rt.alloc(), &watched, store, Vec::new(rt.alloc()))?;
     Ok(fills(&mut station) && notes.are(calls))
@@ -351,6 +354,47 @@ fn calls_so(rt: &HostRuntime, store: &str, calls: &str) -> Result<bool, Memory> 
 #[test]
 fn locks_and_the_folder_come_before_the_first_byte(rt: HostRuntime) -> Result<(), Fail> {
     let store = store_path(&rt)?;
-    assert!(rt; calls_so(&rt, &store, "op lp oj lj od sd wp wp sp wj sj rp rp rp ")?);
+    assert!(rt;
+        calls_so(
+            &rt,
+            &store,
+            "op lp mp oj lj mj od sd mp wp wp sp mp mj wj sj mj rp rp rp "
+        )?
+    );
+    Ok(clear(&rt, &store)?)
+}
+
+// Whether each write and sync of this many writes and then a sync succeeds.
+fn writes<D: Disk>(disk: &mut D, count: u64) -> bool
+    requires { count < 16 }
+{
+    for n in 0..count {
+        if disk.write(Area::Pages, 4096 * n, b"abc").is_err() {
+            return false;
+        }
+    }
+    disk.sync(Area::Pages).is_ok()
+}
+
+// Whether three writes and a sync, and then two writes and a sync, are exactly these calls.
+fn writes_so(rt: &HostRuntime, store: &str, calls: &str) -> Result<bool, Memory> {
+    let notes = Notes::new(Vec::new(rt.alloc()), NONE_FAILS);
+    let watched = Watched { rt, notes: &notes };
+    let mut station = FileStation::new(rt.alloc(), &watched, store, Vec::new(rt.alloc()))?;
+    Ok(writes(&mut station, 3) && writes(&mut station, 2) && notes.are(calls))
+}
+
+#[test]
+fn a_file_is_checked_before_the_first_write_and_after_each_sync(
+    rt: HostRuntime,
+) -> Result<(), Fail> {
+    let store = store_path(&rt)?;
+    assert!(rt;
+        writes_so(
+            &rt,
+            &store,
+            "op lp mp oj lj mj od sd mp wp wp wp sp mp mp wp wp sp mp "
+        )?
+    );
     Ok(clear(&rt, &store)?)
 }

@@ -12,7 +12,7 @@ use std_devices::StoreFile;
 
 // The call that fails: its two letters, its number among such calls, and the system's error, or 0 for a write that takes nothing.
 //
-// The first letter is the call: open, lock, read, write or sync. The second is the file: pages, journal, or the directory of both.
+// The first letter is the call: open, lock, metadata, read, write or sync. The second is the file: pages, journal, or the directory of both.
 #[derive(Clone, Copy)]
 pub(crate) struct Plan {
     pub(crate) call: &'static str,
@@ -216,6 +216,7 @@ impl<'a> Seek for WatchedFile<'a> {
 
 impl<'a> OpenFile for WatchedFile<'a> {
     fn metadata(&self) -> io::Result<Metadata> {
+        self.notes.call(b'm', self.of)?;
         self.file.metadata()
     }
 

@@ -1,1 +1,3 @@
 mod Holding
+pub mod Sealed
+pub mod Tables

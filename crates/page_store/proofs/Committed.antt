@@ -7,7 +7,7 @@ use Rattle.page_journal.specs.Record.{IsJournal, IsReady, SaysNothing, applied, 
 use Rattle.page_store.specs.declared.superblock.Superblock.{Superblock}
 use Rattle.page_store.specs.Superblock.{superblock_in, IsStorePage}
 use Rattle.page_store.specs.Contents.{page_bytes, IsCommitted, IsVersion1Page}
-use Rattle.buffer_pool.specs.Pages.{PageTable}
+use Rattle.page_cache.specs.Pages.{PageTable}
 use Rattle.page_store.specs.Held.{AreImages}
 use Rattle.page_store.specs.Store.{Rests}
 

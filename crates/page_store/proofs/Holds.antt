@@ -6,10 +6,10 @@ use Rattle.disk_model.specs.declared.disk.Area.TheVariants.{Pages}
 use Rattle.page_journal.specs.Record.{applied}
 use Rattle.page_cache.specs.Pairs.{bytes_at, pairs_of}
 use Rattle.page_cache.specs.declared.cache.Cache.{Cache}
-use Rattle.buffer_pool.specs.Pages.{PageTable, first_of, first_page, page_in}
-use Rattle.buffer_pool.specs.Places.{held_page, page_behind}
-use Rattle.buffer_pool.proofs.Tables.{none_some}
-use Rattle.buffer_pool.proofs.Sealed.{none_of_both}
+use Rattle.page_cache.specs.Pages.{PageTable, first_of, first_page, page_in}
+use Rattle.page_cache.specs.Places.{held_page, page_behind}
+use Rattle.page_cache.proofs.Tables.{none_some}
+use Rattle.page_cache.proofs.Sealed.{none_of_both}
 use Rattle.page_store.specs.Contents.{page_bytes, Overlay, shown}
 use Rattle.page_store.specs.Held.{AreCached, AreImages}
 

@@ -12,10 +12,10 @@ use Rattle.disk_model.specs.World.{Image}
 use Rattle.disk_model.specs.declared.disk.Area.TheVariants.{Pages, Journal}
 use Rattle.page_journal.specs.Record.{applied, batch_of, given, kept, with_batch, AreLastImages, IsOverwritten, OverwritesAlso}
 use Rattle.page_journal.proofs.Batches.{length_given}
-use Rattle.buffer_pool.specs.Pages.{IsSized, PageTable, first_of, first_page, page_in}
-use Rattle.buffer_pool.specs.Rooms.{HasRoomFor, Ordered, Rooms, boxed, ordered_page, room_page}
-use Rattle.buffer_pool.proofs.Tables.{same_key, other_key, none_some}
-use Rattle.buffer_pool.proofs.Sealed.{empty_table, empty_has_room, moved_has_room}
+use Rattle.page_cache.specs.Pages.{IsSized, PageTable, first_of, first_page, page_in}
+use Rattle.page_cache.specs.Rooms.{HasRoomFor, Ordered, Rooms, boxed, ordered_page, room_page}
+use Rattle.page_cache.proofs.Tables.{same_key, other_key, none_some}
+use Rattle.page_cache.proofs.Sealed.{empty_table, empty_has_room, moved_has_room}
 use Rattle.page_store.specs.Contents.{page_bytes}
 use Rattle.page_store.specs.Held.{AreImages, AreKept}
 use Rattle.page_store.proofs.Bytes.{area_by_pages}

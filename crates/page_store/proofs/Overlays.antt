@@ -15,8 +15,8 @@ use Rattle.page_face.specs.Causes.{IsUncounted}
 use Rattle.page_face.specs.FreeList.{PageMap, with_page}
 use Rattle.page_journal.specs.Record.{IsAscending, applied, batch_of, given, with_batch, IsBeforeOrAfter, IsReady, LeavesPages, StandsFor}
 use Rattle.page_journal.proofs.Batches.{page_here, page_elsewhere, length_given, number_given}
-use Rattle.buffer_pool.specs.Rooms.{Ordered, ordered_page}
-use Rattle.buffer_pool.proofs.Tables.{same_key, other_key}
+use Rattle.page_cache.specs.Rooms.{Ordered, ordered_page}
+use Rattle.page_cache.proofs.Tables.{same_key, other_key}
 use Rattle.page_store.specs.declared.superblock.Superblock.{Superblock}
 use Rattle.page_store.specs.Superblock.{superblock_in, IsInRange, IsStorePage}
 use Rattle.page_store.specs.Contents.{page_bytes, Overlay, page_in, IsSized, first_of, shown, counted_pages, contents_in, contents_of, HoldsOneOf}

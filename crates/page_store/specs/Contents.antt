@@ -1,10 +1,10 @@
 -- What a store holds: page 0's fields and the pages counted.
-pub use Rattle.buffer_pool.specs.Pages.{IsSized, first_of, first_page, page_in}
+pub use Rattle.page_cache.specs.Pages.{IsSized, first_of, first_page, page_in}
 use Rattle.std.specs.Prelude.{◌≡◌, ◌⊎◌, ℕ, ◌+◌, ◌*◌, Bool, true, List, [], map, cond, nat_lt, ◌==◌, if◌then◌else◌}
 use Rattle.std.specs.List.{range_with_len}
 use Rattle.disk_model.specs.World.{World, Image}
 use Rattle.page_face.specs.FreeList.{PageMap}
-use Rattle.buffer_pool.specs.Pages.{PageTable}
+use Rattle.page_cache.specs.Pages.{PageTable}
 use Rattle.page_journal.specs.Record.{StandsFor, IsReady, applied}
 use Rattle.page_store.specs.declared.superblock.Superblock.{Superblock}
 use Rattle.page_face.specs.declared.head.Version.TheVariants.{One}

@@ -8,8 +8,8 @@ use Rattle.disk_model.specs.declared.disk.Area.TheVariants.{Pages, Journal}
 use Rattle.page_cache.specs.Pairs.{bytes_at, pairs_of}
 use Rattle.page_cache.specs.declared.cache.Cache.{Cache}
 use Rattle.page_journal.specs.Record.{IsOverwritten, IsRecordOf, applied, given}
-use Rattle.buffer_pool.specs.Pages.{IsSized, PageTable, first_of, page_in}
-use Rattle.buffer_pool.specs.Rooms.{HasRoomFor, Ordered, Rooms, ordered_page}
+use Rattle.page_cache.specs.Pages.{IsSized, PageTable, first_of, page_in}
+use Rattle.page_cache.specs.Rooms.{HasRoomFor, Ordered, Rooms, ordered_page}
 use Rattle.page_store.specs.Contents.{page_bytes}
 
 -- Each page of the journal has 4,096 bytes, and a room among those for a checkpoint, which are in order.

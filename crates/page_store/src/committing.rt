@@ -3,14 +3,14 @@ ghost use Rattle.std.specs.Prelude.{◌≡◌, ◌≢◌, ◌↔◌, ◌≤◌, 
 ghost use Rattle.disk_model.specs.World.{LeavesOnly, Rose};
 ghost use Rattle.disk_model.specs.declared.disk.Area.TheVariants as areas;
 ghost use Rattle.page_journal.specs.Record.{SaysNothing, LeavesPages, applied};
-ghost use Rattle.buffer_pool.specs.Pages.{spare};
-ghost use Rattle.buffer_pool.specs.Rooms.{HasRoomFor};
+ghost use Rattle.page_cache.specs.Pages.{spare};
+ghost use Rattle.page_cache.specs.Rooms.{HasRoomFor};
 ghost use Rattle.page_store.specs.Contents.{contents_in, contents_of, HoldsOneOf, page_in};
 
 use crate::gathering::{gather, take_room};
 use crate::store::Store;
-use buffer_pool::{PageTable, Place};
 use disk_model::Disk;
+use page_cache::{PageTable, Place};
 use page_face::{PageFault, Pages};
 use page_journal::{append, checkpoint};
 use std::collections::BTreeMap;
@@ -71,7 +71,7 @@ impl<'d, D: Disk> Store<'d, D> {
             return Err(PageFault::Stopped);
         }
         self.place = Place::Spare;
-        buffer_pool::write(
+        page_cache::write(
             self.alloc,
             &mut self.overlay,
             &mut self.seals,
@@ -88,7 +88,7 @@ impl<'d, D: Disk> Store<'d, D> {
             return Err(PageFault::Disk);
         };
         self.place = Place::Spare;
-        buffer_pool::move_all(&mut self.overlay, &mut self.journal);
+        page_cache::move_all(&mut self.overlay, &mut self.journal);
         self.end = end;
         self.last = self.current;
         self.stopped = false;
@@ -192,13 +192,13 @@ impl<'d, D: Disk> Store<'d, D> {
         // Until the checkpoint has succeeded the store is stopped.
         self.stopped = true;
         self.place = Place::Spare;
-        buffer_pool::fill(&mut self.rooms, &mut self.journal);
+        page_cache::fill(&mut self.rooms, &mut self.journal);
         let Ok(()) = checkpoint(&mut *self.disk, &self.rooms) else {
             // An older image of a page that is cached may have the seal of the journal's image.
             self.seals.clear();
             return Err(PageFault::Disk);
         };
-        buffer_pool::retire(&mut self.rooms, &mut self.cache);
+        page_cache::retire(&mut self.rooms, &mut self.cache);
         self.end = 0;
         self.stopped = false;
         Ok(())
@@ -221,7 +221,7 @@ impl<'d, D: Disk> Store<'d, D> {
         ensures takes { self.new.takes_left ≡ self.old.takes_left }
     {
         self.place = Place::Spare;
-        buffer_pool::clear(&mut self.overlay, &mut self.seals);
+        page_cache::clear(&mut self.overlay, &mut self.seals);
         self.current = self.last;
     }
 }

@@ -4,13 +4,13 @@ ghost use Rattle.disk_model.specs.World.{HasDiskCause};
 ghost use Rattle.disk_model.specs.declared.disk.Area.TheVariants as areas;
 ghost use Rattle.page_journal.specs.Record.{applied};
 ghost use Rattle.page_store.specs.Contents.{page_bytes, shown};
-ghost use Rattle.buffer_pool.specs.Places.{held_page, looked_page};
+ghost use Rattle.page_cache.specs.Places.{held_page, looked_page};
 ghost use Rattle.page_store.specs.Store.{ReadsPage};
 
 use crate::page::read_page;
 use crate::store::Store;
-use buffer_pool::Place;
 use disk_model::{Disk, Failed};
+use page_cache::Place;
 
 impl<'d, D: Disk> Store<'d, D> {
     // Looks at a page and doesn't note it in the log. A page that memory holds costs no call of the disk.
@@ -53,7 +53,7 @@ impl<'d, D: Disk> Store<'d, D> {
         ensures stopped { self.new.stopped ≡ self.old.stopped }
     {
         self.at = page;
-        self.place = buffer_pool::find(
+        self.place = page_cache::find(
             &mut self.hints,
             &self.overlay,
             &self.journal,
@@ -85,7 +85,7 @@ impl<'d, D: Disk> Store<'d, D> {
             Ok(()) => {
                 self.seals.forget(page);
                 self.at = page;
-                self.place = buffer_pool::keep(&mut self.cache, page, &self.spare);
+                self.place = page_cache::keep(&mut self.cache, page, &self.spare);
                 Ok(())
             }
             Err(failed) => Err(failed),

@@ -2,11 +2,11 @@
 ghost use Rattle.std.specs.Prelude.{◌≡◌, ◌+◌, ◌*◌, ◌<◌, ◌≤◌, ◌-◌, ◌^◌, ℕ, IsSome, [], IfOk, OnOk, IfErr, length};
 ghost use Rattle.std.specs.BTreeMap.{get, IsOrdered};
 ghost use Rattle.std.specs.Ordering.{nat_cmp};
-ghost use Rattle.buffer_pool.specs.Pages.{first_page, page_in, spare};
-ghost use Rattle.buffer_pool.specs.Rooms.{HasRoomFor, ordered_page, room_page};
+ghost use Rattle.page_cache.specs.Pages.{first_page, page_in, spare};
+ghost use Rattle.page_cache.specs.Rooms.{HasRoomFor, ordered_page, room_page};
 ghost use Rattle.page_store.specs.Held.{IsRecordOfTable};
 
-use buffer_pool::{PageTable, make_room, move_all, put_back, put_in_order};
+use page_cache::{PageTable, make_room, move_all, put_back, put_in_order};
 use page_face::{Page, PageFault};
 use page_journal::Record;
 use std::alloc::Global;

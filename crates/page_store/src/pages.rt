@@ -4,8 +4,8 @@ ghost use Rattle.page_face.specs.Causes.{IsUncounted, Rose};
 ghost use Rattle.page_store.specs.Store.{kept_of};
 
 use crate::store::Store;
-use buffer_pool::Place;
 use disk_model::Disk;
+use page_cache::Place;
 use page_face::{Damage, Page, PageFault, Pages, Seal, free_next, free_page, unlinked};
 
 fn is_uncounted(counted: u32, page: u32) -> bool
@@ -18,7 +18,7 @@ impl<'d, D: Disk> Pages for Store<'d, D> {
     ghost use Rattle.std.specs.Prelude.{◌≡◌, ◌≤◌};
     ghost use Rattle.page_journal.specs.Record.{applied};
     ghost use Rattle.page_store.specs.Contents.{shown, counted_pages};
-    ghost use Rattle.buffer_pool.specs.Places.{looked_page};
+    ghost use Rattle.page_cache.specs.Places.{looked_page};
     ghost use Rattle.page_store.specs.Takes.{counts_of};
     ghost use Rattle.page_store.specs.Store.{GoesOn, OnlyReads, goes_nowhere, goes_further, reads_nothing, reads_further};
 
@@ -91,7 +91,7 @@ impl<'d, D: Disk> Pages for Store<'d, D> {
     }
 
     fn looked(&self) -> &Page {
-        buffer_pool::lend(
+        page_cache::lend(
             self.place,
             &self.overlay,
             &self.journal,
@@ -118,7 +118,7 @@ impl<'d, D: Disk> Pages for Store<'d, D> {
             return Err(unlinked(page));
         }
         self.place = Place::Spare;
-        buffer_pool::write(self.alloc, &mut self.overlay, &mut self.seals, page, bytes)
+        page_cache::write(self.alloc, &mut self.overlay, &mut self.seals, page, bytes)
     }
 
     fn write_sealed(&mut self, page: u32, bytes: &Page, seal: Seal) -> Result<(), PageFault> {
@@ -129,7 +129,7 @@ impl<'d, D: Disk> Pages for Store<'d, D> {
             return Err(unlinked(page));
         }
         self.place = Place::Spare;
-        buffer_pool::write_sealed(
+        page_cache::write_sealed(
             self.alloc,
             &mut self.overlay,
             &mut self.seals,
@@ -174,7 +174,7 @@ impl<'d, D: Disk> Pages for Store<'d, D> {
             return Err(unlinked(page));
         }
         self.place = Place::Spare;
-        buffer_pool::write(
+        page_cache::write(
             self.alloc,
             &mut self.overlay,
             &mut self.seals,

@@ -4,8 +4,6 @@
 #![tactic(auto)]
 
 #[cfg(test)]
-mod buffer_pool_tests;
-#[cfg(test)]
 mod map_check_tests;
 #[cfg(test)]
 mod page_cache_tests;

@@ -1,5 +1,6 @@
-//! A cache of two pages, and one of none.
-use page_cache::Cache;
+//! A cache of two pages, one of none, and seals that are noted and dropped.
+use page_cache::{Cache, Seals};
+use page_face::Seal;
 use std::test::Fail;
 
 // A page, and the first byte of it that is lent.
@@ -38,4 +39,27 @@ fn a_cache_of_no_page_holds_none(rt: HostRuntime) {
     let mut cache = Cache::empty(rt.alloc());
     assert_eq!(rt; cache.keep(1, &[11; 4096]), Ok(()));
     assert_eq!(rt; looked_at(&mut cache, 1), None);
+}
+
+#[test]
+fn a_seal_stays_until_it_is_dropped(rt: HostRuntime) {
+    let seal = Seal {
+        map: 1,
+        key: 12,
+        value: 32,
+        level: 0,
+    };
+    let mut seals = Seals::new(rt.alloc());
+    seals.note(1, seal);
+    assert!(rt; seals.has(1, seal));
+    // Page 65,537 has the slot of page 1.
+    seals.note(65_537, seal);
+    assert!(rt; !seals.has(1, seal));
+    seals.forget(1);
+    assert!(rt; seals.has(65_537, seal));
+    seals.forget(65_537);
+    assert!(rt; !seals.has(65_537, seal));
+    seals.note(1, seal);
+    seals.clear();
+    assert!(rt; !seals.has(1, seal));
 }

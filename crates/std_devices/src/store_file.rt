@@ -34,6 +34,8 @@ pub(crate) struct KeptFile<F: StoreFile> {
     file: F,
     // The least length of the file: its length when it was opened, or the end of a later write.
     len: u64,
+    // Whether the file was found whole since the last sync, and before the first write after it.
+    is_whole: bool,
 }
 
 impl<F: StoreFile> KeptFile<F> {
@@ -41,7 +43,11 @@ impl<F: StoreFile> KeptFile<F> {
         ensures file { result.file ≡ file }
         ensures len { result.len ≡ len }
     {
-        KeptFile { file, len }
+        KeptFile {
+            file,
+            len,
+            is_whole: false,
+        }
     }
 
     pub(crate) fn is_empty(&self) -> bool {
@@ -71,7 +77,7 @@ impl<F: StoreFile> KeptFile<F> {
         Err(Cause::System(io::Error::from(ErrorKind::TimedOut)))
     }
 
-    // Checks that the file has its whole length and a name.
+    // Checks that the file has its whole length and a name. It is a call of the system.
     fn check_whole(&self) -> Result<(), Cause> {
         let found = self.file.metadata().map_err(|error| Cause::System(error))?;
         if found.len() < self.len {
@@ -83,9 +89,13 @@ impl<F: StoreFile> KeptFile<F> {
         Ok(())
     }
 
-    // Writes all of the bytes at offset `at`.
+    // Writes all of the bytes at offset `at`. Before the first write after a sync the file is checked: a write past the end of a file that
+    // was cut would give it its length again, with zeros for what it lost.
     pub(crate) fn write(&mut self, at: u64, bytes: &[u8]) -> Result<(), Cause> {
-        self.check_whole()?;
+        if !self.is_whole {
+            self.check_whole()?;
+            self.is_whole = true;
+        }
         match self.file.write_all_at(bytes, at) {
             Ok(()) => {
                 self.len = self.len.max(at.saturating_add(bytes.len() as u64));
@@ -96,7 +106,9 @@ impl<F: StoreFile> KeptFile<F> {
     }
 
     // Makes the whole file safe: its bytes and its length, but not the times that the system keeps of it.
-    pub(crate) fn sync(&self) -> Result<(), Cause> {
+    // Then checks it.
+    pub(crate) fn sync(&mut self) -> Result<(), Cause> {
+        self.is_whole = false;
         self.file.sync_data().map_err(|error| Cause::System(error))?;
         self.check_whole()
     }

@@ -1,4 +1,4 @@
-use Rattle.buffer_pool.specs.Places.{looked_page}
+use Rattle.page_cache.specs.Places.{looked_page}
 use Rattle.page_store.proofs.pages.StorePages.is_sealed.Goals as goal
 
 pub returns-then-is_held : goal.returns-then-is_held

@@ -1,5 +1,5 @@
-use Rattle.buffer_pool.specs.Places.{looked_page}
-use Rattle.buffer_pool.proofs.Sealed.{true_noted}
+use Rattle.page_cache.specs.Places.{looked_page}
+use Rattle.page_cache.proofs.Sealed.{true_noted}
 use Rattle.page_store.proofs.pages.StorePages.seal.Goals as goal
 
 pub invariant_of-self : goal.invariant_of-self

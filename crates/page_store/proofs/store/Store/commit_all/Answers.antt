@@ -1,12 +1,12 @@
 use Rattle.std.proofs.Common.{◌≡◌, ℕ, Option, List, refl, ap, subst, sym, ◌∙◌, rules, arith}
 use Rattle.page_journal.specs.Record.{applied, batch_of, given, with_batch}
-use Rattle.buffer_pool.specs.Pages.{first_page, page_in}
-use Rattle.buffer_pool.specs.Rooms.{ordered_page}
+use Rattle.page_cache.specs.Pages.{first_page, page_in}
+use Rattle.page_cache.specs.Rooms.{ordered_page}
 use Rattle.page_store.specs.declared.superblock.Superblock.{Superblock}
 use Rattle.page_store.specs.Contents.{Overlay, contents_in, shown, counted_pages, IsCommitted}
 use Rattle.page_store.proofs.Committed.{says_then}
 use Rattle.page_store.proofs.Overlays.{committed_by, committed_contents, committed_pages, commit_leaves, cleared_sized, whole_of}
-use Rattle.buffer_pool.proofs.Sealed.{moved_keeps, true_moved, true_pages}
+use Rattle.page_cache.proofs.Sealed.{moved_keeps, true_moved, true_pages}
 use Rattle.page_store.proofs.Holds.{cached_later}
 use Rattle.page_store.proofs.Kept.{kept_after, images_after}
 use Rattle.page_store.proofs.store.Store.commit_all.Goals as goal

@@ -2,7 +2,7 @@ use Rattle.std.proofs.Common.{◌≡◌, ◌<◌, List, ℕ, length, sym, subst,
 use Rattle.std.proofs.lemmas.Result.{on_ok_weaker}
 use Rattle.page_journal.specs.Record.{applied}
 use Rattle.page_store.specs.Contents.{shown}
-use Rattle.buffer_pool.specs.Places.{looked_page}
+use Rattle.page_cache.specs.Places.{looked_page}
 use Rattle.page_store.proofs.Holds.{shown_held, shown_unheld}
 use Rattle.page_store.proofs.store.Store.fetch.Goals as goal
 

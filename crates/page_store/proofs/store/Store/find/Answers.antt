@@ -1,4 +1,4 @@
-use Rattle.buffer_pool.proofs.Sealed.{true_same}
+use Rattle.page_cache.proofs.Sealed.{true_same}
 use Rattle.page_store.proofs.Holds.{cached_same}
 use Rattle.page_store.proofs.store.Store.find.Goals as goal
 

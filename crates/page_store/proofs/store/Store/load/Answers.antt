@@ -1,5 +1,5 @@
 use Rattle.page_store.proofs.Committed.{committed_rests, images_rest}
-use Rattle.buffer_pool.proofs.Sealed.{kept_lies, true_read}
+use Rattle.page_cache.proofs.Sealed.{kept_lies, true_read}
 use Rattle.page_store.proofs.Holds.{cached_alike, cached_read}
 use Rattle.page_store.proofs.store.Store.load.Goals as goal
 

@@ -1,7 +1,7 @@
 use Rattle.std.proofs.Common.{◌≡◌, [], refl, sym, ◌∙◌, subst, arith, ℕ}
 use Rattle.page_journal.specs.Record.{IsReady}
 use Rattle.page_journal.proofs.Gates.{ready_0}
-use Rattle.buffer_pool.proofs.Sealed.{empty_table, true_alike}
+use Rattle.page_cache.proofs.Sealed.{empty_table, true_alike}
 use Rattle.page_store.proofs.Holds.{cached_later}
 use Rattle.page_store.proofs.Kept.{bare_none, images_at_front, images_alike, kept_alike, kept_none, same_pages}
 use Rattle.page_store.proofs.store.Store.make_room.Goals as goal

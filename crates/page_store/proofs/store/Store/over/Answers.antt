@@ -1,6 +1,6 @@
 use Rattle.std.proofs.Common.{refl, arith}
 use Rattle.page_journal.proofs.Gates.{ready_0}
-use Rattle.buffer_pool.proofs.Sealed.{true_none}
+use Rattle.page_cache.proofs.Sealed.{true_none}
 use Rattle.page_store.proofs.Overlays.{cleared_sized}
 use Rattle.page_store.proofs.Holds.{cached_none}
 use Rattle.page_store.proofs.Kept.{bare_none, images_at_front, kept_none}

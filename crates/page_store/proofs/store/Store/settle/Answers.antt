@@ -2,7 +2,7 @@ use Rattle.std.proofs.Common.{ℕ, refl, arith, sym, subst}
 use Rattle.std.proofs.lemmas.Bool.{false≢true}
 use Rattle.page_journal.specs.Record.{IsReady}
 use Rattle.page_journal.proofs.Gates.{ready_0}
-use Rattle.buffer_pool.proofs.Sealed.{filled_is, retired_behind, true_behind, true_none}
+use Rattle.page_cache.proofs.Sealed.{filled_is, retired_behind, true_behind, true_none}
 use Rattle.page_store.proofs.Committed.{committed_later}
 use Rattle.page_store.proofs.Holds.{cached_retired}
 use Rattle.page_store.proofs.Kept.{bare_none, images_at_front, images_filled, kept_none}
