@@ -8,6 +8,8 @@ mod disk_model_tests;
 #[cfg(test)]
 mod file_station_tests;
 #[cfg(test)]
+mod progress_tests;
+#[cfg(test)]
 mod std_devices_tests;
 #[cfg(test)]
 mod watched;

@@ -7,8 +7,8 @@ use irtree_top::{
 use page_face::{Damage, Rule};
 use std::alloc::{AllocError, Global};
 
-// How many bytes a page of a store has.
-const PAGE_LEN: u64 = 4_096;
+/// How many bytes a page of a store has.
+pub(crate) const PAGE_LEN: u64 = 4_096;
 
 /// What a run was asked for.
 #[derive(Clone, Copy)]
@@ -22,8 +22,8 @@ pub(crate) struct Task<'a> {
 }
 
 impl Task<'_> {
-    // The store as text in one line: a question mark for each control character of its name.
-    fn store_name(&self, alloc: Global) -> Result<String, AllocError> {
+    /// Returns the store as text in one line: a question mark for each control character of its name.
+    pub(crate) fn store_name(&self, alloc: Global) -> Result<String, AllocError> {
         let mut line = String::new(alloc);
         for c in self.store.unwrap_or("store in memory").chars() {
             line.push(if c.is_control() { '?' } else { c })?;

@@ -11,14 +11,15 @@
 
 mod advice;
 
-use crate::advice::{Task, advice_on, on_foreign_word, on_start};
+use crate::advice::{PAGE_LEN, Task, advice_on, on_foreign_word, on_start};
 use irtree_top::{Action, Ended, PolicyName, WordsFault, read_words, run};
 use spatial_base::Memory;
 use split_policy::{Halving, Quadratic, SplitPolicy};
 use std::alloc::{AllocError, Global};
+use std::fs;
 use std::io::{ErrorKind, Write};
 use std::process::ExitCode;
-use std_devices::{FileStation, ScratchStation, StdSource};
+use std_devices::{FileStation, Progress, ReportedStation, ScratchStation, StdSource};
 use text_policy::WordAware;
 
 // How a run ended, and the lines that follow the end's own on standard error, if any.
@@ -91,6 +92,23 @@ fn announce(alloc: Global, task: Task<'_>, err: &mut impl Write) {
     }
 }
 
+// What says on standard error how far the run has come, if it may be silent for long. There is none if no memory is left for it, or
+// the length of the store's file can't be had.
+fn progress_of<'a>(
+    rt: &'a HostRuntime,
+    task: Task<'_>,
+    store: &str,
+) -> Option<Progress<'a, HostRuntime>> {
+    match task.action {
+        Action::Verify | Action::Upgrade => {
+            let pages = fs::metadata(rt, store).ok()?.len() / PAGE_LEN;
+            let name = task.store_name(rt.alloc()).ok()?;
+            Some(Progress::new(rt.alloc(), rt, rt.stderr(), name, pages))
+        }
+        Action::Run | Action::Load | Action::Make => None,
+    }
+}
+
 // Runs over the files of a store. If a call on them failed, the advice is their station's.
 fn run_on_files(
     rt: &HostRuntime,
@@ -99,13 +117,14 @@ fn run_on_files(
     policy: Box<dyn SplitPolicy>,
 ) -> Result<Outcome, Memory> {
     let mut source = StdSource::new(rt.stdin());
-    let mut station = FileStation::new(rt.alloc(), rt, store, rt.stdout())?;
+    let files = FileStation::new(rt.alloc(), rt, store, rt.stdout())?;
+    let mut station = ReportedStation::new(files, progress_of(rt, task, store));
     announce(rt.alloc(), task, &mut rt.stderr());
     let end = run(rt.alloc(), task.words, &mut source, &mut station, policy);
     Ok(match end {
         Ended::Disk => Outcome {
             end,
-            advice: station.trouble_line(rt.alloc()).unwrap_or(None),
+            advice: station.station().trouble_line(rt.alloc()).unwrap_or(None),
         },
         end => advised(rt.alloc(), end, task),
     })

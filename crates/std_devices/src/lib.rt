@@ -11,6 +11,8 @@
 mod file_station;
 mod opening;
 mod output;
+mod progress;
+mod reported_station;
 mod scratch_station;
 mod std_source;
 mod store_file;
@@ -18,6 +20,8 @@ mod store_files;
 mod trouble;
 
 pub use file_station::FileStation;
+pub use progress::Progress;
+pub use reported_station::ReportedStation;
 pub use scratch_station::ScratchStation;
 pub use std_source::StdSource;
 pub use store_file::StoreFile;
