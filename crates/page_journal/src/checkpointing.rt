@@ -8,12 +8,18 @@ ghost use Rattle.page_journal.specs.Record.{AllButPages, AreLastImages, HasJourn
 use crate::JournalFault;
 use crate::gate::set_gate;
 use crate::records::bytes_of;
+use crate::runs::Run;
 use disk_model::{Area, Disk, Failed};
 use page_face::Page;
+use std::alloc::Global;
 use std::collections::BTreeMap;
 
-// Writes the pages that are present in their places, and makes them safe.
-fn install<D: Disk>(disk: &mut D, pages: &BTreeMap<u32, Option<Box<Page>>>) -> Result<(), Failed>
+// Writes the pages that are present in their places, neighbours at once, and makes them safe.
+fn install<D: Disk>(
+    alloc: Global,
+    disk: &mut D,
+    pages: &BTreeMap<u32, Option<Box<Page>>>,
+) -> Result<(), Failed>
     requires { IsTrue D.readable → LeavesOnlySeen (D.world disk.old) }
     ensures keeps { IsTrue D.readable → Keeps (AllButPages (batch_of (kept pages.now.entries))) (D.world disk.old) (D.world disk.new) }
     ensures done { IsTrue D.readable → OnOk result ((D.world disk.new).seen areas.Pages
@@ -23,11 +29,13 @@ fn install<D: Disk>(disk: &mut D, pages: &BTreeMap<u32, Option<Box<Page>>>) -> R
     ensures cause { HasDiskCause (D.world disk.old) (D.world disk.new) result }
     ensures room { D.room_of disk.new ≡ D.room_of disk.old }
 {
+    let mut run = Run::new(alloc);
     for (number, page) in pages {
         if let Some(page) = page {
-            disk.write(Area::Pages, 4096 * *number as u64, bytes_of(page))?;
+            run.add(disk, *number, bytes_of(page))?;
         }
     }
+    run.write(disk)?;
     disk.sync(Area::Pages)
 }
 
@@ -37,8 +45,10 @@ fn install<D: Disk>(disk: &mut D, pages: &BTreeMap<u32, Option<Box<Page>>>) -> R
 /// has a record, and nothing is pending, as the call begins. After Ok nothing is pending, and the next record begins at 0.
 ///
 /// Returns only `Disk`, if a call of the disk fails. At every moment an image that a crash may leave holds the same pages.
-/// Takes no memory. Costs a write for each page, one of the gate's byte, and two syncs.
+/// Costs a write for each run of at most 16 neighbouring pages, one of the gate's byte, two syncs, and a copy of each page. The copies
+/// take the memory of 16 pages meanwhile. Without that memory, each page is written by itself.
 pub fn checkpoint<D: Disk>(
+    alloc: Global,
     disk: &mut D,
     pages: &BTreeMap<u32, Option<Box<Page>>>,
 ) -> Result<(), JournalFault>
@@ -60,7 +70,7 @@ pub fn checkpoint<D: Disk>(
     ensures disk_alone { IfErr result (λ fault. fault ≡ faults.Disk) }
     ensures room { D.room_of disk.new ≡ D.room_of disk.old }
 {
-    install(disk, pages)?;
+    install(alloc, disk, pages)?;
     set_gate(disk, 0, 0)?;
     Ok(())
 }

@@ -5,8 +5,8 @@
 //! for every other value. An image holds its pages with all records before the first closed gate written, in order.
 //!
 //! [`append`] writes a record after a closed gate, with the next gate closed at its end, and then opens its gate, with a sync after each
-//! step. [`checkpoint`] writes the last images of all pages of the journal in their places, and closes the journal's first gate.
-//! [`recover`] does the same after a crash, from the journal itself.
+//! step. [`checkpoint`] writes the last images of all pages of the journal in their places, neighbouring pages at once, and closes the
+//! journal's first gate. [`recover`] does the same page by page after a crash, from the journal itself.
 //!
 //! At every moment an image that a crash may leave holds the pages as they were, or those with all pages of the current record written.
 //!
@@ -19,6 +19,7 @@ mod fault;
 mod gate;
 mod records;
 mod recovery;
+mod runs;
 
 pub use appending::append;
 pub use checkpointing::checkpoint;

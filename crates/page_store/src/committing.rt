@@ -149,10 +149,12 @@ impl<'d, D: Disk> Store<'d, D> {
     /// Writes the pages of the journal in their places, so that the next record begins at offset 0. Leaves the overlay and the head.
     ///
     /// Returns `Stopped` if an earlier commit or checkpoint failed, and `Disk` if a call of the disk fails; then the store is stopped. At
-    /// every moment an image that a crash may leave holds the same pages. Takes no memory.
+    /// every moment an image that a crash may leave holds the same pages. It needs no memory, and takes that of 16 pages meanwhile if there
+    /// is some.
     ///
-    /// Costs a write for each page of the journal, one of a byte, two syncs, and a search of an ordered map for each page. If the journal
-    /// holds no record, the disk isn't called. The pages move into the cache, uncopied, as far as it has room for them.
+    /// Costs a write for each run of at most 16 neighbouring pages of the journal, one of a byte, and two syncs; for each page a copy and a
+    /// search of an ordered map. If the journal holds no record, the disk isn't called. The pages move into the cache, uncopied, as far as
+    /// it has room for them.
     pub fn settle(&mut self) -> Result<(), PageFault>
         ensures same_loan { self.new.disk.ghost_name ≡ self.old.disk.ghost_name }
         ensures any_moment { IsTrue D.readable → self.old.stopped ≡ false → LeavesOnly (D.world self.old.disk.now) (D.world self.new.disk.now)
@@ -193,7 +195,7 @@ impl<'d, D: Disk> Store<'d, D> {
         self.stopped = true;
         self.place = Place::Spare;
         page_cache::fill(&mut self.rooms, &mut self.journal);
-        let Ok(()) = checkpoint(&mut *self.disk, &self.rooms) else {
+        let Ok(()) = checkpoint(self.alloc, &mut *self.disk, &self.rooms) else {
             // An older image of a page that is cached may have the seal of the journal's image.
             self.seals.clear();
             return Err(PageFault::Disk);

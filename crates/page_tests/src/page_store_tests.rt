@@ -237,7 +237,7 @@ const LOOKS: &[(Call, Answer)] = &[
 ];
 
 // Opening makes two syncs, a commit two and a checkpoint two.
-static RUNS: [Run; 11] = [
+static RUNS: [Run; 12] = [
     Run {
         name: "a free list that is a circle",
         image: Image::Circle,
@@ -343,6 +343,31 @@ static RUNS: [Run; 11] = [
         log: &[1, 1, 1],
         reads: 1,
         holds: (2, 0, 8),
+    },
+    Run {
+        name: "a checkpoint of neighbours",
+        image: Image::Empty,
+        cache: 0,
+        fail: 0,
+        calls: &[
+            (Call::Take, Answer::Number(1)),
+            (Call::Take, Answer::Number(2)),
+            (Call::Take, Answer::Number(3)),
+            (Call::Take, Answer::Number(4)),
+            (Call::Write(1, 5), Answer::Done),
+            (Call::Write(4, 8), Answer::Done),
+            (Call::Commit, Answer::Done),
+            (Call::Write(2, 6), Answer::Done),
+            (Call::Commit, Answer::Done),
+            (Call::Settle, Answer::Done),
+            (Call::Read(1), Answer::First(5)),
+            (Call::Read(2), Answer::First(6)),
+            (Call::Read(3), Answer::First(0)),
+            (Call::Read(4), Answer::First(8)),
+        ],
+        log: &[1, 2, 3, 4],
+        reads: 4,
+        holds: (5, 0, 5),
     },
     Run {
         name: "a checkpoint that fails",
