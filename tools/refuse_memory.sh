@@ -107,7 +107,7 @@ held() {
 }
 
 # A run of a kind in which the growths from one number to another are refused. It has the status, what was printed, and the lines on
-# standard error without the one that an upgrade begins with.
+# standard error without those that an upgrade begins with.
 run_refused() {
     rm -f "$work/note"
     status=0
@@ -115,9 +115,9 @@ run_refused() {
         "$program" "$store" "${words[@]}" < "$work/$1" > "$work/said" 2> "$work/err" || status=$?
     IFS= read -r -d '' said < "$work/said" || true
     mapfile -t err < "$work/err"
-    if [[ ${err[0]:-} == "$store: an upgrade begins; "* ]]; then
+    while [[ ${err[0]:-} == "$store: an upgrade begins; "* || ${err[0]:-} == "$store: "*" pages read so far; "* ]]; do
         err=("${err[@]:1}")
-    fi
+    done
 }
 
 # Whether the last run's end is one that may come.

@@ -53,6 +53,9 @@ SEND_SIZE = 65_536
 # How ./irtree begins its remarks on the build. They aren't lines of the program, and come before them.
 REMARKS = ("irtree: the sources are newer than the built program", "irtree: the unproved build")
 
+# The program's lines before that of its end: that a check begins, and how many pages it has read.
+_BEGUN = re.compile(r".*: (a check of all its pages begins|[0-9]+ pages read so far); .*")
+
 
 # What can go wrong.
 
@@ -761,7 +764,8 @@ def _options(**values: Optional[object]) -> List[str]:
 
 def _end_lines(errors: bytes) -> Tuple[str, Tuple[str, ...]]:
     """The fixed line of standard error, and the lines of advice after it."""
-    lines = [line for line in errors.decode("utf-8", "replace").rstrip("\n").split("\n") if not line.startswith(REMARKS)]
+    lines = errors.decode("utf-8", "replace").rstrip("\n").split("\n")
+    lines = [line for line in lines if not line.startswith(REMARKS) and not _BEGUN.fullmatch(line)]
     return (lines[0], tuple(lines[1:])) if lines else ("", ())
 
 
@@ -1153,7 +1157,7 @@ def verify(store: PathName, *, cache: Optional[int] = None, program: Optional[Pa
     broken = re.fullmatch(r"broken (\d+) (\d+)\n", printed)
     if run.returncode == 7 and broken:
         return Broken(int(broken[1]), int(broken[2]))
-    raise Ended(run.returncode, *_end_lines(re.sub(rb"\A[^\n]*: a check of all its pages begins[^\n]*\n", b"", run.stderr)), 0)
+    raise Ended(run.returncode, *_end_lines(run.stderr), 0)
 
 
 def _read_load(printed: str) -> Tuple[Loaded, bool]:

@@ -54,12 +54,10 @@ impl Write for Paper<'_> {
 }
 
 // The seventh read fails.
-static FAILS: [Failing; 1] = [
-    Failing {
-        kind: CallKind::Read,
-        nth: 7,
-    },
-];
+static FAILS: [Failing; 1] = [Failing {
+    kind: CallKind::Read,
+    nth: 7,
+}];
 
 // Each line is a case: calls, each at its milliseconds, and then how many pages each line speaks of. `p` is a read of pages, `j` of the
 // journal, `w` a write, `s` a sync, `y` a `say`. Without a number the clock can't be read.

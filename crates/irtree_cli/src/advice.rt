@@ -1,5 +1,5 @@
 //! What people read on standard error beside the fixed line of an end: before it that an upgrade or a check begins, and after it the file
-//! that is meant, what is wrong with it, and the next step.
+//! that is meant, what is wrong with it, and the next step. Lines on how many pages were read are `std_devices::Progress`'s.
 
 use irtree_top::{
     Action, Ended, INPUT_MAX, InputFault, LOAD_MAX, LimitFault, StoreFault, explain_words,

@@ -2,9 +2,9 @@
 //! `irtree_top::run`.
 //!
 //! Its exit status is that of the end. On standard error the end's fixed line comes first and alone; one or two lines of advice
-//! follow, except after a run that is done. An upgrade of a file has one line before all of them, which says that it begins. That the
-//! system's streams and files meet the traits of a source and a station is the premise of the program; what is read, kept and printed
-//! is `run`'s to prove.
+//! follow, except after a run that is done. A check and an upgrade of a file have a line before all of them, which says that it begins,
+//! and then one each second at most on how many pages were read. That the system's streams and files meet the traits of a source and a
+//! station is the premise of the program; what is read, kept and printed is `run`'s to prove.
 //!
 //! Tests: `tools/file_troubles.sh` runs the built program; `irtree_tests/src` runs the same top call over stations in memory.
 #![tactic(auto)]

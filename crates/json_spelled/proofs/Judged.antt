@@ -1,12 +1,8 @@
 -- Each text of bytes is a JSON text or has a first offence.
-use Rattle.std.proofs.Common.{◌≡◌, ◌≢◌, ℕ, zero, suc, ◌+◌, ◌<◌, ◌≤◌, ◌⊎◌, Bool, true, false, cond, List, [], ◌∷◌, length, take, get_or, Option, Some, None, refl, sym, ap, ◌∙◌, subst, arith, inl, inr, nat_eq, nat_lt, nat_le}
-use Rattle.std.specs.Str.{IsUtf8, is_utf8}
-use Rattle.std.proofs.lemmas.Str.{IsUtf8-from_is_utf8, is_utf8-from_IsUtf8, IsUtf8-nil}
+use Rattle.std.proofs.Common.{◌≡◌, ◌≢◌, ℕ, zero, suc, ◌+◌, ◌<◌, ◌≤◌, ◌⊎◌, Bool, true, false, cond, List, [], ◌∷◌, length, take, get_or, Option, Some, None, refl, ap, ◌∙◌, subst, arith, inl, inr, nat_eq, nat_lt}
+use Rattle.std.specs.Str.{IsUtf8}
 use Rattle.std.proofs.lemmas.Bool.Decides.{nat_tests}
 use Rattle.std.proofs.Math.Logic.{⊎_elim}
-use Rattle.std.proofs.Math.Nat.{eq-or-lt_of_le}
-use Rattle.std.proofs.Math.Seq.{take-length}
-use Rattle.std.proofs.lemmas.List.{take_all}
 use Rattle.json_spelled.specs.Json.{Json}
 use Rattle.json_spelled.specs.Grammar.{IsText}
 use Rattle.json_spelled.specs.Kind.{kind}
@@ -21,9 +17,11 @@ use Rattle.json_spelled.specs.declared.fault.StepFault.TheVariants as steps
 use Rattle.json_spelled.specs.declared.kind.Kind.{Kind}
 use Rattle.json_spelled.specs.declared.kind.Kind.TheVariants as kinds
 use Rattle.json_spelled.proofs.Attempts.{opened_deep}
-use Rattle.json_spelled.proofs.Steps.{reads_none, reads_more, stops, reads_all}
+use Rattle.json_spelled.proofs.Steps.{reads_none, reads_more, reads_all}
+use Rattle.json_spelled.proofs.Runs.{text_stops}
 use Rattle.json_spelled.proofs.Offences.{stopped, gives_ill, gives_value, gives_end}
 use Rattle.json_spelled.proofs.Depth.{same_number}
+use Rattle.json_spelled.proofs.Cuts.{front_len, front_valid}
 
 -- an attempt goes to a state, or fails for a cause
 abbrev Tested : (ℕ → Option State) → Type 0
@@ -92,41 +90,9 @@ ends_from text utf8 zero i whole state r =
 ends_from text utf8 (suc left) i whole state r =
     let short : i < length text = omega arith in
     ⊎_elim (λ (next, goes). ends_from text utf8 left (suc i) (omega arith) next (reads_more text i state next short utf8 r goes))
-    (λ fails. inr (⊎_elim (λ refused. (Syntax i, (λ e. absurd (cc e)), stops text i state steps.Refused short utf8 r refused))
-    (λ deep. (TooDeep i, (λ e. absurd (cc e)), stops text i state steps.TooDeep short utf8 r deep)) fails))
+    (λ fails. inr (⊎_elim (λ refused. (Syntax i, (λ e. absurd (cc e)), text_stops text i state steps.Refused short utf8 r refused))
+    (λ deep. (TooDeep i, (λ e. absurd (cc e)), text_stops text i state steps.TooDeep short utf8 r deep)) fails))
     (tested_step state (get_or text i 0) (kind (get_or text i 0)))
-
--- no front is whole characters that is longer than so many bytes
-abbrev NoneLonger : List ℕ → ℕ → Type 0
-NoneLonger bytes n = (m : ℕ) → n < m → m ≤ length bytes → IsUtf8 (take m bytes) → ⊥
-
--- nor one that would be longer than the bytes
-none_by : (bytes : List ℕ) (n : ℕ) → n < length bytes → NoneLonger bytes n → (m : ℕ) → n < m → IsUtf8 (take m bytes) → (b : Bool) → nat_le m (length bytes) ≡ b → ⊥
-none_by bytes n short none m far h true e = none m far (grind (arith, nat_tests)) h
-none_by bytes n short none m far h false e =
-    let beyond : length bytes ≤ m = grind (arith, nat_tests) in
-    none (length bytes) short (omega arith) (subst IsUtf8 (take_all m bytes beyond ∙ sym (take-length bytes)) h)
-
--- so many bytes are the longest front of whole characters
-valid : (bytes : List ℕ) (n : ℕ) → n ≤ length bytes → IsUtf8 (take n bytes) → NoneLonger bytes n → IsValidLength bytes n
-valid bytes n short front none = record {
-  within = short;
-  front = front;
-  ill = λ less. record { short = less; front = front; longest = λ m far h. none_by bytes n less none m far h (nat_le m (length bytes)) refl };
-}
-
--- the longest front, by a test of one of them
-front_by : (bytes : List ℕ) (n : ℕ) → suc n ≤ length bytes → NoneLonger bytes (suc n) → (NoneLonger bytes n → (len : ℕ) × IsValidLength bytes len)
-    → (b : Bool) → is_utf8 (take (suc n) bytes) ≡ b → (len : ℕ) × IsValidLength bytes len
-front_by bytes n short none shorter true e = (suc n, valid bytes (suc n) short (IsUtf8-from_is_utf8 (take (suc n) bytes) e) none)
-front_by bytes n short none shorter false e = shorter (λ m far within h. ⊎_elim
-    (λ same. let no : false ≡ true = sym e ∙ is_utf8-from_IsUtf8 (take (suc n) bytes) (subst (λ k. IsUtf8 (take k bytes)) (sym same) h) in absurd (cc no))
-    (λ more. none m more within h) (eq-or-lt_of_le {n = suc n} {m = m} (omega arith)))
-
--- the longest front of whole characters, where none is longer than so many bytes
-front_of : (bytes : List ℕ) (n : ℕ) → n ≤ length bytes → NoneLonger bytes n → (len : ℕ) × IsValidLength bytes len
-front_of bytes zero short none = (0, valid bytes 0 short IsUtf8-nil none)
-front_of bytes (suc n) short none = front_by bytes n short none (λ less. front_of bytes n (omega arith) less) (is_utf8 (take (suc n) bytes)) refl
 
 -- what a text has: a value or a first offence
 abbrev pub Judged : List ℕ → Type 0
@@ -145,7 +111,8 @@ by_length bytes len v state r false e = by_value bytes len v (grind (arith, nat_
 -- Each text of bytes has a value or a first offence.
 pub judged : (bytes : List ℕ) → Judged bytes
 judged bytes =
-    let front = front_of bytes (length bytes) (omega arith) (λ m far short h. omega arith) in
-    ⊎_elim (λ (state, r). by_length bytes front.0 front.1 state r (nat_lt front.0 (length bytes)) refl)
-    (λ (fault, known, s). inr (fault, stopped bytes front.0 fault front.1 s known))
-    (ends_from (take front.0 bytes) front.1.front (length (take front.0 bytes)) 0 (omega arith) start (reads_none (take front.0 bytes)))
+    let len = front_len bytes in
+    let v = front_valid bytes in
+    ⊎_elim (λ (state, r). by_length bytes len v state r (nat_lt len (length bytes)) refl)
+    (λ (fault, known, s). inr (fault, stopped bytes len fault v s known))
+    (ends_from (take len bytes) v.front (length (take len bytes)) 0 (omega arith) start (reads_none (take len bytes)))

@@ -1,13 +1,17 @@
 pub mod Attempts
 pub mod ByteKinds
+pub mod Bytes
 pub mod Completeness
 pub mod Completions
+pub mod Cuts
 pub mod Depth
+pub mod Feeds
 pub mod Frames
 pub mod Judged
 pub mod Kept
 pub mod Numerals
 pub mod Offences
+pub mod Runs
 pub mod Soundness
 pub mod Steps
 pub mod Texts

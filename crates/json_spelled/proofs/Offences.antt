@@ -78,17 +78,6 @@ stopped bytes len (TooDeep at) v s known =
     }
 stopped bytes len Memory v s known = absurd (known refl)
 
--- what stops has no value
-pub stopped_only : (bytes : List ℕ) (len : ℕ) (fault : JsonFault) → IsValidLength bytes len → StopsAt (take len bytes) fault → (value : Json) → IsText level_limit value bytes → fault ≡ Memory
-stopped_only bytes len (NotUtf8 at) v s value t = absurd s
-stopped_only bytes len (Syntax at) v s value t =
-    let short : at < len = omega (arith, s.0, length-take len bytes) in
-    absurd (s.2 (64, subst (Begins level_limit) (sym (take_within (suc at) len bytes (omega arith))) (begins_front level_limit (suc at) bytes (text_begins level_limit value bytes t))))
-stopped_only bytes len (TooDeep at) v s value t =
-    let short : at < len = omega (arith, s.0, length-take len bytes) in
-    absurd (s.3 (subst (Begins level_limit) (sym (take_within (suc at) len bytes (omega arith))) (begins_front level_limit (suc at) bytes (text_begins level_limit value bytes t))))
-stopped_only bytes len Memory v s value t = refl
-
 -- a text of whole characters that was read to its end begins a text
 read_begins : (text : List ℕ) (state : State) → IsUtf8 text → ReadsSo text state → Begins level_limit text
 read_begins text state h r = begins level_limit text state (λ rest. r.leads level_limit rest (omega arith)) (cut_whole text state h r.keeps)
@@ -100,10 +89,6 @@ ill_first bytes len state v short r = record {
   first = no_earlier bytes len v.within (read_begins (take len bytes) state v.front r) (λ ill h. ill_at bytes len ill v h);
   utf8_first = λ i h e. ap NotUtf8 e;
 }
-
--- and there is no value
-pub ill_only : (bytes : List ℕ) (len : ℕ) → IsValidLength bytes len → len < length bytes → (value : Json) → IsText level_limit value bytes → ⊥
-ill_only bytes len v short value t = no_ill bytes len t.utf8 (v.ill short)
 
 -- what the machine answers of all the bytes
 answered : (bytes : List ℕ) (state : State) (levels : ℕ) → 64 ≤ levels → ReadsSo bytes state → answer levels start bytes ≡ finish state
@@ -120,11 +105,6 @@ end_first bytes state h r e =
       first = no_earlier bytes (length bytes) (omega arith) b (λ ill k. absurd (no_ill bytes ill h k));
       utf8_first = λ i k same. absurd (no_ill bytes i h k);
     }
-
--- and there is no value
-pub end_only : (bytes : List ℕ) (state : State) → ReadsSo bytes state → finish state ≡ None → (value : Json) → IsText level_limit value bytes → ⊥
-end_only bytes state r e value t =
-    let no : None ≡ Some value = sym e ∙ sym (answered bytes state 64 (omega arith) r) ∙ text_read 64 value bytes t in absurd (cc no)
 
 -- What was read to its end is a text of that value, and of no other.
 pub done_text : (bytes : List ℕ) (state : State) (value : Json) → IsUtf8 bytes → ReadsSo bytes state → finish state ≡ Some value → IsText level_limit value bytes
@@ -164,7 +144,3 @@ pub gives_end : (bytes : List ℕ) (len : ℕ) → IsValidLength bytes len → l
 gives_end bytes len v whole (state, r, e) =
     let same : length bytes ≡ len = omega (arith, v.within) in
     subst (λ (n : ℕ). IsFirstOffence bytes (Syntax n)) same (end_first bytes state (valid_text bytes len v whole) (subst (λ (x : List ℕ). ReadsSo x state) (all_valid bytes len v whole) r) e)
-
--- and there is no value
-pub gives_end_only : (bytes : List ℕ) (len : ℕ) → IsValidLength bytes len → length bytes ≤ len → Gives (take len bytes) None → (value : Json) → IsText level_limit value bytes → ⊥
-gives_end_only bytes len v whole (state, r, e) value t = end_only bytes state (subst (λ (x : List ℕ). ReadsSo x state) (all_valid bytes len v whole) r) e value t

@@ -6,3 +6,4 @@ pub mod Machine
 pub mod Reader
 pub mod Refusals
 pub mod Reading
+pub mod Feeding

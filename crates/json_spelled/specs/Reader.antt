@@ -1,13 +1,9 @@
 -- The state of the machine that a reader is in.
 use Rattle.std.specs.Prelude.{◌≡◌, ℕ, ◌≤◌, List, map, reverse, Option, Some, None, string_bytes, ⊤, Result, MatchResult}
-use Rattle.std.specs.Str.{IsUtf8}
 use Rattle.json_spelled.specs.View.{json_of, jsons_of, entries_of}
 use Rattle.json_spelled.specs.Machine.{Frame, InList, InObject, Place, Start, Mark1, Mark2, Value, FirstItem, BehindItem, FirstName, Name, BehindName, BehindMember, Ended, Use, AsValue, AsName, InBytes, InEscape, Hex1, Hex2, Hex3, Hex4, State, Between, InWord, InNumber, InText}
-use Rattle.json_spelled.specs.declared.lexeme.Part.{Part}
 use Rattle.json_spelled.specs.declared.lexeme.Lexeme.{Lexeme}
 use Rattle.json_spelled.specs.declared.lexeme.Lexeme.TheVariants as lexemes
-use Rattle.json_spelled.specs.declared.kind.Kind.{Kind}
-use Rattle.json_spelled.specs.declared.kind.Kind.TheVariants as kinds
 use Rattle.json_spelled.specs.declared.reader.Open.{Open}
 use Rattle.json_spelled.specs.declared.reader.Open.TheVariants as opens
 use Rattle.json_spelled.specs.declared.reader.Place.{Place as ReaderPlace}
@@ -61,13 +57,13 @@ around r = frames_of r.opened.items
 abbrev pub state_by : Lexeme → Reader → State
 state_by lexemes.Between r = Between (place_of r.place) (around r)
 state_by (lexemes.Word word) r = InWord word (around r)
-state_by (lexemes.Number part) r = InNumber part r.token.items (around r)
-state_by lexemes.Text r = InText (use_of r.place) InBytes r.token.items r.high (around r)
-state_by lexemes.Escape r = InText (use_of r.place) InEscape r.token.items r.high (around r)
-state_by lexemes.Hex1 r = InText (use_of r.place) Hex1 r.token.items r.high (around r)
-state_by lexemes.Hex2 r = InText (use_of r.place) (Hex2 r.first) r.token.items r.high (around r)
-state_by lexemes.Hex3 r = InText (use_of r.place) (Hex3 r.first r.second) r.token.items r.high (around r)
-state_by lexemes.Hex4 r = InText (use_of r.place) (Hex4 r.first r.second r.third) r.token.items r.high (around r)
+state_by (lexemes.Number part) r = InNumber part (string_bytes r.token) (around r)
+state_by lexemes.Text r = InText (use_of r.place) InBytes (string_bytes r.token) r.high (around r)
+state_by lexemes.Escape r = InText (use_of r.place) InEscape (string_bytes r.token) r.high (around r)
+state_by lexemes.Hex1 r = InText (use_of r.place) Hex1 (string_bytes r.token) r.high (around r)
+state_by lexemes.Hex2 r = InText (use_of r.place) (Hex2 r.first) (string_bytes r.token) r.high (around r)
+state_by lexemes.Hex3 r = InText (use_of r.place) (Hex3 r.first r.second) (string_bytes r.token) r.high (around r)
+state_by lexemes.Hex4 r = InText (use_of r.place) (Hex4 r.first r.second r.third) (string_bytes r.token) r.high (around r)
 
 -- the state of a reader
 abbrev pub state_of : Reader → State
@@ -86,22 +82,6 @@ Fails attempt Memory = ⊤
 -- the result of an attempt that leaves this state
 abbrev pub Tries : {A : Type 0} → (ℕ → Option State) → Result A StepFault → State → Type 0
 Tries attempt result new = MatchResult result (λ _. Goes attempt new) (Fails attempt)
-
--- what was read of a token that a byte of this kind ends is UTF-8
-abbrev pub ReadyIn : Lexeme → Kind → List ℕ → Type 0
-ReadyIn lexemes.Between k token = ⊤
-ReadyIn (lexemes.Word word) k token = ⊤
-ReadyIn (lexemes.Number part) k token = IsUtf8 token
-ReadyIn lexemes.Text k token = k ≡ kinds.Quote → IsUtf8 token
-ReadyIn lexemes.Escape k token = ⊤
-ReadyIn lexemes.Hex1 k token = ⊤
-ReadyIn lexemes.Hex2 k token = ⊤
-ReadyIn lexemes.Hex3 k token = ⊤
-ReadyIn lexemes.Hex4 k token = ⊤
-
--- what was read of a number that ends with the text is UTF-8
-abbrev pub Finishes : Lexeme → List ℕ → Type 0
-Finishes lexeme token = (part : Part) → lexeme ≡ lexemes.Number part → IsUtf8 token
 
 -- the result of what only memory can keep from this state
 abbrev pub Makes : {A : Type 0} → Result A StepFault → State → State → Type 0

@@ -1,14 +1,15 @@
 ghost use Rattle.std.specs.Prelude.{◌≡◌, OnOk, MatchResult, option_map, string_bytes};
-ghost use Rattle.std.specs.Str.{IsUtf8};
+ghost use Rattle.json_spelled.specs.Kind.{kind as kind_read};
 ghost use Rattle.json_spelled.specs.Machine.{goes_on, may_end, number_step, deliver, finish};
 ghost use Rattle.json_spelled.specs.Json.{spelled};
-ghost use Rattle.json_spelled.specs.Reader.{state_of, around, Tries, Makes, Finishes};
+ghost use Rattle.json_spelled.specs.Reader.{state_of, around, Tries, Makes};
 ghost use Rattle.json_spelled.specs.View.{json_of};
 
 use crate::fault::StepFault;
 use crate::kind::Kind;
 use crate::lexeme::{Lexeme, Part};
 use crate::reader::{Place, Reader};
+use crate::text::push_ascii;
 use crate::tree::Tree;
 use std::mem;
 
@@ -67,13 +68,13 @@ fn is_last(part: Part) -> bool
 impl Reader {
     /// Takes a byte that continues the number or ends it.
     pub(crate) fn number(&mut self, part: Part, kind: Kind, byte: u8) -> Result<(), StepFault>
-        requires { IsUtf8 self.old.token.items }
-        ensures { Tries (λ levels. number_step levels (goes_on part kind) part self.old.token.items (around self.old) kind byte)
+        requires { kind ≡ kind_read byte }
+        ensures { Tries (λ levels. number_step levels (goes_on part kind) part (string_bytes self.old.token) (around self.old) kind byte)
             result (state_of self.new) }
     {
         if let Some(next) = part_behind(part, kind) {
             self.lexeme = Lexeme::Number(next);
-            self.token.push(byte)?;
+            push_ascii(&mut self.token, byte)?;
             return Ok(());
         }
         if !is_last(part) {
@@ -85,8 +86,7 @@ impl Reader {
 
     /// Ends the number, which is whole.
     fn end_number(&mut self) -> Result<(), StepFault>
-        requires { IsUtf8 self.old.token.items }
-        ensures made { Makes result (deliver (spelled self.old.token.items) (around self.old))
+        ensures made { Makes result (deliver (spelled (string_bytes self.old.token)) (around self.old))
             (state_of self.new) }
         ensures between { OnOk result (self.new.lexeme ≡ Lexeme.Between) }
     {
@@ -96,17 +96,14 @@ impl Reader {
 
     /// Returns the token's bytes as a text.
     pub(crate) fn copied(&self) -> Result<String, StepFault>
-        requires { IsUtf8 self.now.token.items }
-        ensures { MatchResult result (λ text. string_bytes text ≡ self.now.token.items)
+        ensures { MatchResult result (λ text. string_bytes text ≡ string_bytes self.now.token)
             (λ fault. fault ≡ StepFault.Memory) }
     {
-        let text = unsafe { str::from_utf8_unchecked(&self.token) };
-        Ok(String::from_str(self.alloc, text)?)
+        Ok(String::from_str(self.alloc, &self.token)?)
     }
 
     /// Returns the value of the text, or `None` if the text may not end here.
     pub(crate) fn finish(&mut self) -> Result<Option<Tree>, StepFault>
-        requires { Finishes self.old.lexeme self.old.token.items }
         ensures { MatchResult result (λ tree. option_map json_of tree ≡ finish (state_of self.old))
             (λ fault. fault ≡ StepFault.Memory) }
     {

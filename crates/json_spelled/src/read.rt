@@ -1,69 +1,13 @@
-ghost use Rattle.std.specs.Prelude.{◌≡◌, ◌≢◌, ◌<◌, IfOk, IfErr, OnOk, MatchResult, option_map};
-ghost use Rattle.std.specs.Str.{IsUtf8};
+ghost use Rattle.std.specs.Prelude.{◌≡◌, ◌≢◌, IfOk, IfErr, OnOk, MatchResult};
 ghost use Rattle.json_spelled.specs.Grammar.{IsText};
 ghost use Rattle.json_spelled.specs.Json.{Json};
-ghost use Rattle.json_spelled.specs.Machine.{start};
-ghost use Rattle.json_spelled.specs.Reader.{state_of};
-ghost use Rattle.json_spelled.specs.Reading.{refusal_of, ReadsSo, StopsAt, Gives, IsValidLength};
 ghost use Rattle.json_spelled.specs.Refusals.{level_limit, IsOffence, IsFirstOffence};
 ghost use Rattle.json_spelled.specs.View.{json_of};
 ghost use Rattle.json_spelled.specs.declared.tree.JsonFault.{JsonFault};
 
-use crate::fault::StepFault;
-use crate::reader::Reader;
+use crate::feed::Feed;
 use crate::tree::{JsonFault, Tree};
 use std::alloc::Global;
-
-/// How many bytes at the beginning are whole characters.
-fn valid_len(bytes: &[u8]) -> usize
-    ensures { IsValidLength bytes.now result }
-{
-    match str::from_utf8(bytes) {
-        Ok(_) => bytes.len(),
-        Err(error) => error.valid_up_to(),
-    }
-}
-
-/// The refusal of the byte at this offset.
-fn refusal(fault: StepFault, at: u64) -> JsonFault
-    ensures { result ≡ refusal_of fault at }
-{
-    match fault {
-        StepFault::Refused => JsonFault::Syntax(at),
-        StepFault::TooDeep => JsonFault::TooDeep(at),
-        StepFault::Memory => JsonFault::Memory,
-    }
-}
-
-/// Reads whole characters to their end.
-fn read_text(reader: &mut Reader, text: &[u8]) -> Result<(), JsonFault>
-    requires new { state_of reader.old ≡ start }
-    requires text { IsUtf8 text.now }
-    ensures read { OnOk result (ReadsSo text.now (state_of reader.new)) }
-    ensures stops { IfErr result (StopsAt text.now) }
-{
-    for (at, byte) in text.iter().enumerate() {
-        if let Err(fault) = reader.step(*byte) {
-            return Err(refusal(fault, at as u64));
-        }
-    }
-    Ok(())
-}
-
-/// The value of a text of whole characters, or `None` if it ends too early.
-fn value_of(alloc: Global, text: &[u8]) -> Result<Option<Tree>, JsonFault>
-    requires { IsUtf8 text.now }
-    ensures { MatchResult result (λ value. Gives text.now (option_map json_of value)) (StopsAt text.now) }
-{
-    let mut reader = Reader::new(alloc);
-    if let Err(fault) = read_text(&mut reader, text) {
-        return Err(fault);
-    }
-    match reader.finish() {
-        Ok(value) => Ok(value),
-        Err(_) => Err(JsonFault::Memory),
-    }
-}
 
 /// Reads a JSON text into its value.
 ///
@@ -87,16 +31,8 @@ pub fn read_tree(alloc: Global, bytes: &[u8]) -> Result<Tree, JsonFault>
     ensures refused { IfErr result (λ fault. fault ≢ JsonFault.Memory → IsFirstOffence bytes.now fault) }
     ensures no_offence { OnOk result ((fault : JsonFault) → IsOffence bytes.now fault → ⊥) }
 {
-    let valid = valid_len(bytes);
-    let value = match value_of(alloc, &bytes[..valid]) {
-        Ok(value) => value,
-        Err(fault) => return Err(fault),
-    };
-    if valid < bytes.len() {
-        return Err(JsonFault::NotUtf8(valid as u64));
-    }
-    match value {
-        Some(tree) => Ok(tree),
-        None => Err(JsonFault::Syntax(valid as u64)),
-    }
+    let mut feed = Feed::new(alloc);
+    // `end` gives a refusal again.
+    let _pushed = feed.push(bytes);
+    feed.end()
 }

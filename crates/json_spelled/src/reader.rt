@@ -38,8 +38,8 @@ pub(crate) struct Reader {
     pub lexeme: Lexeme,
     /// What may come while no token is open. In a string: whether the string is a name.
     pub place: Place,
-    /// The bytes of the number so far, or the decoded bytes of the string so far.
-    pub token: Vec<u8>,
+    /// The number so far, or the decoded string so far.
+    pub token: String,
     /// The high surrogate right before, if there is one.
     pub high: Option<u32>,
     /// The digits so far of the code unit that is being read.

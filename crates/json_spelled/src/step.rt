@@ -1,7 +1,7 @@
-ghost use Rattle.std.specs.Prelude.{◌≡◌, ◌==◌, Some, None, if◌then◌else◌};
+ghost use Rattle.std.specs.Prelude.{◌≡◌, ◌<◌, ◌==◌, Some, None, if◌then◌else◌};
 ghost use Rattle.json_spelled.specs.Machine.{step, step_by, start, awaited, behind_awaited};
-ghost use Rattle.json_spelled.specs.Kind.{kind};
-ghost use Rattle.json_spelled.specs.Reader.{state_of, state_by, around, Tries, Makes, ReadyIn};
+ghost use Rattle.json_spelled.specs.Kind.{kind as kind_read};
+ghost use Rattle.json_spelled.specs.Reader.{state_of, state_by, around, Tries, Makes};
 
 use crate::fault::StepFault;
 use crate::kind::{Kind, kind_of};
@@ -34,7 +34,7 @@ impl Reader {
             alloc,
             lexeme: Lexeme::Between,
             place: Place::Start,
-            token: Vec::new(alloc),
+            token: String::new(alloc),
             high: None,
             first: 0,
             second: 0,
@@ -75,7 +75,7 @@ impl Reader {
 
     /// Takes the next byte.
     pub(crate) fn step(&mut self, byte: u8) -> Result<(), StepFault>
-        requires { ReadyIn self.old.lexeme (kind byte) self.old.token.items }
+        requires { self.old.lexeme ≡ Lexeme.Text → byte < 128 }
         ensures { Tries (λ levels. step levels (state_of self.old) byte) result (state_of self.new) }
     {
         self.go_on_in(self.lexeme, kind_of(byte), byte)
@@ -84,7 +84,8 @@ impl Reader {
     /// Takes a byte of this kind in this token.
     fn go_on_in(&mut self, lexeme: Lexeme, kind: Kind, byte: u8) -> Result<(), StepFault>
         requires lexeme { self.old.lexeme ≡ lexeme }
-        requires ready { ReadyIn lexeme kind self.old.token.items }
+        requires small { lexeme ≡ Lexeme.Text → byte < 128 }
+        requires kind { kind ≡ kind_read byte }
         ensures { Tries (λ levels. step_by levels (state_by lexeme self.old) kind byte)
             result (state_of self.new) }
     {

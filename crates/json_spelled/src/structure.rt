@@ -1,4 +1,5 @@
-ghost use Rattle.std.specs.Prelude.{◌≡◌, ◌∷◌, [], Some, None, OnOk, string_bytes, if◌then◌else◌};
+ghost use Rattle.std.specs.Prelude.{◌≡◌, ◌<◌, ◌∷◌, [], Some, None, OnOk, string_bytes, if◌then◌else◌};
+ghost use Rattle.json_spelled.specs.Kind.{kind as kind_read};
 ghost use Rattle.json_spelled.specs.Machine.{Between, InText, InBytes, InNumber, InWord, open_at, begin, between, first_item, behind_item, first_name, name_step, behind_name, behind_member, ended_step, deliver};
 ghost use Rattle.json_spelled.specs.Reader.{state_of, around, place_of, use_of, Tries, Makes};
 ghost use Rattle.json_spelled.specs.View.{json_of, jsons_of, entries_of};
@@ -7,6 +8,7 @@ use crate::fault::StepFault;
 use crate::kind::Kind;
 use crate::lexeme::{Lexeme, Part, Word};
 use crate::reader::{Open, Place, Reader};
+use crate::text::push_ascii;
 use crate::tree::Tree;
 use std::mem;
 
@@ -66,11 +68,12 @@ impl Reader {
     }
 
     fn begin_number(&mut self, part: Part, byte: u8) -> Result<(), StepFault>
+        requires { byte < 128 }
         ensures { Makes result (InNumber part (byte ∷ []) (around self.old)) (state_of self.new) }
     {
         self.lexeme = Lexeme::Number(part);
         self.token.clear();
-        self.token.push(byte)?;
+        push_ascii(&mut self.token, byte)?;
         Ok(())
     }
 
@@ -82,6 +85,7 @@ impl Reader {
 
     /// Begins a value.
     fn begin(&mut self, kind: Kind, byte: u8) -> Result<(), StepFault>
+        requires { kind ≡ kind_read byte }
         ensures { Tries (λ levels. begin levels (around self.old) kind byte)
             result (state_of self.new) }
     {
@@ -104,6 +108,7 @@ impl Reader {
     /// Begins the first item of an array, or closes the array.
     #[tactic(auto, using(crate::proofs::Frames::frames_pushed))]
     fn first_item(&mut self, kind: Kind, byte: u8) -> Result<(), StepFault>
+        requires { kind ≡ kind_read byte }
         ensures { Tries (λ levels. first_item levels (around self.old) kind byte)
             result (state_of self.new) }
     {
@@ -220,6 +225,7 @@ impl Reader {
 
     /// Takes a byte while no token is open.
     pub(crate) fn between(&mut self, kind: Kind, byte: u8) -> Result<(), StepFault>
+        requires { kind ≡ kind_read byte }
         ensures { Tries (λ levels. between levels (place_of self.old.place) (around self.old) kind byte)
             result (state_of self.new) }
     {
@@ -229,6 +235,7 @@ impl Reader {
 
     /// Takes a byte while no token is open and `place` says what may come.
     fn go_on(&mut self, place: Place, kind: Kind, byte: u8) -> Result<(), StepFault>
+        requires { kind ≡ kind_read byte }
         ensures { Tries (λ levels. between levels (place_of place) (around self.old) kind byte)
             result (state_of self.new) }
     {

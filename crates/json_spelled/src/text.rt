@@ -1,5 +1,4 @@
-ghost use Rattle.std.specs.Prelude.{◌≡◌, ◌++◌, ◌∷◌, [], None, MatchResult};
-ghost use Rattle.std.specs.Str.{IsUtf8};
+ghost use Rattle.std.specs.Prelude.{◌≡◌, ◌<◌, ◌++◌, ◌∷◌, [], None, IfSome, MatchResult, string_bytes};
 ghost use Rattle.json_spelled.specs.Grammar as grammar;
 ghost use Rattle.json_spelled.specs.Grammar.{said, said_behind, alone};
 ghost use Rattle.json_spelled.specs.Machine.{Hex1, Hex2, Hex3, Hex4, text_step, escape_step, in_text, unit_step, close, InText, InBytes};
@@ -28,7 +27,8 @@ fn is_low(code: u32) -> bool
 
 /// The byte that an escape of one letter means.
 fn escaped(letter: u8) -> Option<u8>
-    ensures { result ≡ grammar.escaped letter }
+    ensures value { result ≡ grammar.escaped letter }
+    ensures small { IfSome result (λ byte. byte < 128) }
 {
     match letter {
         b'"' | b'\\' | b'/' => Some(letter),
@@ -54,19 +54,28 @@ fn hex_digit(byte: u8) -> Option<u8>
 }
 
 /// Appends the character with this code, or U+FFFD if no character has it.
-fn say(token: &mut Vec<u8>, code: u32) -> Result<(), StepFault>
-    ensures { MatchResult result (λ _. token.new.items ≡ token.old.items ++ said code)
+fn say(token: &mut String, code: u32) -> Result<(), StepFault>
+    ensures { MatchResult result (λ _. string_bytes token.new ≡ string_bytes token.old ++ said code)
         (λ fault. fault ≡ StepFault.Memory) }
 {
     let character = char::from_u32(code).unwrap_or('\u{FFFD}');
-    let mut room = [0; 4];
-    token.extend_from_slice(character.encode_utf8(&mut room).as_bytes())?;
+    token.push(character)?;
+    Ok(())
+}
+
+/// Appends an ASCII character.
+pub(crate) fn push_ascii(token: &mut String, byte: u8) -> Result<(), StepFault>
+    requires { byte < 128 }
+    ensures { MatchResult result (λ _. string_bytes token.new ≡ string_bytes token.old ++ byte ∷ [])
+        (λ fault. fault ≡ StepFault.Memory) }
+{
+    token.push(char::from(byte))?;
     Ok(())
 }
 
 /// Appends U+FFFD for a high surrogate whose partner does not follow.
-fn say_alone(token: &mut Vec<u8>, high: Option<u32>) -> Result<(), StepFault>
-    ensures { MatchResult result (λ _. token.new.items ≡ token.old.items ++ alone high)
+fn say_alone(token: &mut String, high: Option<u32>) -> Result<(), StepFault>
+    ensures { MatchResult result (λ _. string_bytes token.new ≡ string_bytes token.old ++ alone high)
         (λ fault. fault ≡ StepFault.Memory) }
 {
     match high {
@@ -76,8 +85,8 @@ fn say_alone(token: &mut Vec<u8>, high: Option<u32>) -> Result<(), StepFault>
 }
 
 /// Appends what a code unit means after `waiting`, the high surrogate right before it, if there is one.
-fn say_behind(token: &mut Vec<u8>, waiting: Option<u32>, code: u32) -> Result<(), StepFault>
-    ensures { MatchResult result (λ _. token.new.items ≡ token.old.items ++ said_behind waiting code)
+fn say_behind(token: &mut String, waiting: Option<u32>, code: u32) -> Result<(), StepFault>
+    ensures { MatchResult result (λ _. string_bytes token.new ≡ string_bytes token.old ++ said_behind waiting code)
         (λ fault. fault ≡ StepFault.Memory) }
 {
     if let Some(high) = waiting {
@@ -96,8 +105,8 @@ impl Reader {
     /// Takes a byte of a string.
     pub(crate) fn text(&mut self, kind: Kind, byte: u8) -> Result<(), StepFault>
         requires lexeme { self.old.lexeme ≡ Lexeme.Text }
-        requires whole { kind ≡ Kind.Quote → IsUtf8 self.old.token.items }
-        ensures { Tries (λ _. text_step (use_of self.old.place) self.old.token.items self.old.high (around self.old) kind byte)
+        requires small { byte < 128 }
+        ensures { Tries (λ _. text_step (use_of self.old.place) (string_bytes self.old.token) self.old.high (around self.old) kind byte)
             result (state_of self.new) }
     {
         match kind {
@@ -113,21 +122,32 @@ impl Reader {
 
     /// Appends a byte to the string's content.
     fn take_byte(&mut self, byte: u8) -> Result<(), StepFault>
-        ensures { Makes result (InText (use_of self.old.place) InBytes ((self.old.token.items ++ alone self.old.high) ++ byte ∷ []) None (around self.old))
+        requires { byte < 128 }
+        ensures { Makes result (InText (use_of self.old.place) InBytes (((string_bytes self.old.token) ++ alone self.old.high) ++ byte ∷ []) None (around self.old))
             (state_of self.new) }
     {
         say_alone(&mut self.token, self.high)?;
         self.high = None;
-        self.token.push(byte)?;
+        push_ascii(&mut self.token, byte)?;
+        self.lexeme = Lexeme::Text;
+        Ok(())
+    }
+
+    /// Appends whole characters to the string's content.
+    pub(crate) fn take_run(&mut self, run: &str) -> Result<(), StepFault>
+        ensures { Makes result (InText (use_of self.old.place) InBytes ((string_bytes self.old.token ++ alone self.old.high) ++ run.now) None (around self.old))
+            (state_of self.new) }
+    {
+        say_alone(&mut self.token, self.high)?;
+        self.high = None;
+        self.token.push_str(run)?;
         self.lexeme = Lexeme::Text;
         Ok(())
     }
 
     /// Ends the string, which is whole.
-    #[tactic(auto, using(crate::proofs::Tokens::alone_text))]
     fn close(&mut self) -> Result<(), StepFault>
-        requires { IsUtf8 self.old.token.items }
-        ensures { Makes result (close (use_of self.old.place) (self.old.token.items ++ alone self.old.high) (around self.old))
+        ensures { Makes result (close (use_of self.old.place) ((string_bytes self.old.token) ++ alone self.old.high) (around self.old))
             (state_of self.new) }
     {
         say_alone(&mut self.token, self.high)?;
@@ -143,7 +163,7 @@ impl Reader {
 
     /// Takes a byte after a backslash.
     pub(crate) fn escape(&mut self, byte: u8) -> Result<(), StepFault>
-        ensures { Tries (λ _. escape_step (use_of self.old.place) self.old.token.items self.old.high (around self.old) byte)
+        ensures { Tries (λ _. escape_step (use_of self.old.place) (string_bytes self.old.token) self.old.high (around self.old) byte)
             result (state_of self.new) }
     {
         if byte == b'u' {
@@ -158,7 +178,7 @@ impl Reader {
 
     /// Takes the first digit of a code unit.
     pub(crate) fn hex1(&mut self, byte: u8) -> Result<(), StepFault>
-        ensures { Tries (λ _. in_text (use_of self.old.place) Hex1 self.old.token.items self.old.high (around self.old) Kind.Other byte)
+        ensures { Tries (λ _. in_text (use_of self.old.place) Hex1 (string_bytes self.old.token) self.old.high (around self.old) Kind.Other byte)
             result (state_of self.new) }
     {
         match hex_digit(byte) {
@@ -173,7 +193,7 @@ impl Reader {
 
     /// Takes the second digit of a code unit.
     pub(crate) fn hex2(&mut self, byte: u8) -> Result<(), StepFault>
-        ensures { Tries (λ _. in_text (use_of self.old.place) (Hex2 self.old.first) self.old.token.items self.old.high (around self.old) Kind.Other byte)
+        ensures { Tries (λ _. in_text (use_of self.old.place) (Hex2 self.old.first) (string_bytes self.old.token) self.old.high (around self.old) Kind.Other byte)
             result (state_of self.new) }
     {
         match hex_digit(byte) {
@@ -188,7 +208,7 @@ impl Reader {
 
     /// Takes the third digit of a code unit.
     pub(crate) fn hex3(&mut self, byte: u8) -> Result<(), StepFault>
-        ensures { Tries (λ _. in_text (use_of self.old.place) (Hex3 self.old.first self.old.second) self.old.token.items self.old.high (around self.old) Kind.Other byte)
+        ensures { Tries (λ _. in_text (use_of self.old.place) (Hex3 self.old.first self.old.second) (string_bytes self.old.token) self.old.high (around self.old) Kind.Other byte)
             result (state_of self.new) }
     {
         match hex_digit(byte) {
@@ -203,7 +223,7 @@ impl Reader {
 
     /// Takes the fourth digit of a code unit, which completes it.
     pub(crate) fn hex4(&mut self, byte: u8) -> Result<(), StepFault>
-        ensures { Tries (λ _. in_text (use_of self.old.place) (Hex4 self.old.first self.old.second self.old.third) self.old.token.items self.old.high (around self.old) Kind.Other byte)
+        ensures { Tries (λ _. in_text (use_of self.old.place) (Hex4 self.old.first self.old.second self.old.third) (string_bytes self.old.token) self.old.high (around self.old) Kind.Other byte)
             result (state_of self.new) }
     {
         match hex_digit(byte) {
@@ -217,7 +237,7 @@ impl Reader {
 
     /// Takes a whole code unit.
     fn unit(&mut self, code: u32) -> Result<(), StepFault>
-        ensures { Makes result (unit_step (use_of self.old.place) self.old.token.items self.old.high (around self.old) code)
+        ensures { Makes result (unit_step (use_of self.old.place) (string_bytes self.old.token) self.old.high (around self.old) code)
             (state_of self.new) }
     {
         say_behind(&mut self.token, self.high, code)?;

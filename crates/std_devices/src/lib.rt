@@ -1,11 +1,11 @@
 //! The devices of the program: standard input as a source, and two stations with standard output as their sink. One station keeps its
-//! areas in files, the other in memory until the run ends.
+//! areas in files, the other in memory until the run ends. A third one is over any station, and says how many pages were read.
 //!
 //! Contracts do not know the content of these devices: the program assumes that the system's streams and files behave as the traits
 //! say. The counts of faults are proved of each device, and what the areas hold also of the station in memory. The bytes themselves are
 //! tested.
 //!
-//! Tests: `device_tests/src/std_devices_tests.rt` and `device_tests/src/file_station_tests.rt`.
+//! Tests: `device_tests/src/std_devices_tests.rt`, `device_tests/src/file_station_tests.rt` and `device_tests/src/progress_tests.rt`.
 #![tactic(auto)]
 
 mod file_station;

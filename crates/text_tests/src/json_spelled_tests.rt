@@ -3,7 +3,7 @@ use std::alloc::{AllocError, Global};
 use std::test::Fail;
 
 /// Texts, and their values as they print. The first two texts are from RFC 8259, section 13.
-static VALUES: [(&str, &str); 24] = [
+pub(crate) static VALUES: [(&str, &str); 24] = [
     (
         "{\n        \"Image\": {\n            \"Width\":  800,\n            \"Height\": 600,\n            \"Title\":  \"View from 15th Floor\",\n            \"Thumbnail\": {\n                \"Url\":    \"http://www.example.com/image/481989943\",\n                \"Height\": 125,\n                \"Width\":  100\n            },\n            \"Animated\" : false,\n            \"IDs\": [116, 943, 234, 38793]\n          }\n      }",
         "Members([(\"Image\", Members([(\"Width\", Spelled(\"800\")), (\"Height\", Spelled(\"600\")), (\"Title\", Text(\"View from 15th Floor\")), (\"Thumbnail\", Members([(\"Url\", Text(\"http://www.example.com/image/481989943\")), (\"Height\", Spelled(\"125\")), (\"Width\", Spelled(\"100\"))])), (\"Animated\", Truth(false)), (\"IDs\", List([Spelled(\"116\"), Spelled(\"943\"), Spelled(\"234\"), Spelled(\"38793\")]))]))])",
@@ -46,7 +46,7 @@ static VALUES: [(&str, &str); 24] = [
 ];
 
 /// Bytes, and why they are refused.
-static REFUSALS: [(&[u8], JsonFault); 58] = [
+pub(crate) static REFUSALS: [(&[u8], JsonFault); 58] = [
     (b"", JsonFault::Syntax(0)),
     (b" ", JsonFault::Syntax(1)),
     (b"{\"type\":\"Fea", JsonFault::Syntax(12)),
@@ -111,7 +111,7 @@ static REFUSALS: [(&[u8], JsonFault); 58] = [
 ];
 
 /// A text that has every construct. A character of two bytes begins at offset 58.
-static TEXT: &str =
+pub(crate) static TEXT: &str =
     "{\"a\":[1,-0.5e+10,true,false,null],\"\\u00e9\\ud83d\\ude00\\n\":\"é\\\"/\",\"c\":{},\"d\":[ 20E-1, [] ]}";
 
 /// Whether another JSON reader accepts that text with one bit flipped: one digit for each bit, the lowest of a byte first.

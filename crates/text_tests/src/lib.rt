@@ -9,6 +9,8 @@ mod fixed_coords_tests;
 #[cfg(test)]
 mod geojson_points_tests;
 #[cfg(test)]
+mod json_feed_tests;
+#[cfg(test)]
 mod json_spelled_tests;
 #[cfg(test)]
 mod line_tokens_tests;

@@ -1,6 +1,0 @@
-pub mod Attempts
-pub mod Bytes
-pub mod Cuts
-pub mod Feeds
-pub mod Frames
-pub mod Runs
