@@ -17,11 +17,11 @@ use Rattle.rtree_nodes.specs.Slots.{NodeMap}
 use Rattle.node_filter.specs.Numbers.{Numbers, impact_of}
 use Rattle.node_filter.specs.Entries.{tree_places}
 use Rattle.node_filter.specs.Hits.{hit_near, near_item}
-use Rattle.collective_query.specs.Choices.{IsChoice, IsWithin, IsCut, AreCut}
-use Rattle.collective_query.specs.Picks.{GoesBeyond}
+use Rattle.group_search.specs.Choices.{IsChoice, IsWithin, IsCut, AreCut}
+use Rattle.group_search.specs.Picks.{GoesBeyond}
 use Rattle.collective_query.specs.TreePicks.{tree_picks, tree_lists, pick_from, word_hits, first_picks, first_lists}
-use Rattle.collective_query.specs.Tried.{IsChosen}
-use Rattle.collective_query.proofs.Members.{contains-later, contains-none, contains-cases, contains-map, map-all, all-ranked, among-ranked}
+use Rattle.group_search.specs.Tried.{IsChosen}
+use Rattle.group_search.proofs.Members.{contains-later, contains-none, contains-cases, contains-map, map-all, all-ranked, among-ranked}
 use Rattle.best_first.proofs.Histories.{contains_head as contains-here}
 use Rattle.collective_query.proofs.TreePicks.{picks-made, hit-among}
 use Rattle.boolean_queries.proofs.Histories.{all-contained}

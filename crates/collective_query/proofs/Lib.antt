@@ -1,17 +1,5 @@
-pub mod Costs
-pub mod Members
-pub mod Products
-pub mod Least
-pub mod Joins
-pub mod Fronts
-pub mod Nexts
-pub mod Cuts
-pub mod Searched
 pub mod Searches
 pub mod TreePicks
 pub mod Agreements
 pub mod Firsts
 pub mod Opened
-pub mod Leads
-pub mod Behind
-pub mod Blocks

@@ -39,13 +39,13 @@ use Rattle.boolean_queries.proofs.Searches.{nearest-few}
 use Rattle.boolean_queries.proofs.OpenedWalks.{range-few}
 use Rattle.best_first.specs.Lists.{all_in}
 use Rattle.boolean_queries.proofs.Words.{few-fewer, few-then, few-made, nearest-calls, range-calls}
-use Rattle.collective_query.specs.Choices.{IsChoice}
+use Rattle.group_search.specs.Choices.{IsChoice}
 use Rattle.collective_query.specs.Opened.{FindsPicks, given_to}
-use Rattle.collective_query.specs.Picks.{picks_of}
+use Rattle.group_search.specs.Picks.{picks_of}
 use Rattle.collective_query.specs.TreePicks.{pick_in, pick_item, pick_from}
-use Rattle.collective_query.proofs.Least.{least-among}
-use Rattle.collective_query.proofs.Members.{contains-none, contains-cases}
-use Rattle.collective_query.proofs.Products.{all-choices}
+use Rattle.group_search.proofs.Least.{least-among}
+use Rattle.group_search.proofs.Members.{contains-none, contains-cases}
+use Rattle.group_search.proofs.Products.{all-choices}
 
 -- what is made where a test holds is made of what is given there
 made-where : (test : Bool) (x : Item) (hit given : Hit) (make : Hit → Pick) (pick : Pick) → pick ≡ make given → Contains (if test then given ∷ [] else []) hit → Contains (if test then pick ∷ [] else []) (make hit)

@@ -13,9 +13,9 @@ use Rattle.rtree_nodes.specs.Slots.{Item, NodeMap}
 use Rattle.node_filter.specs.Numbers.{Numbers, impact_of}
 use Rattle.node_filter.specs.Entries.{point_of, tree_places}
 use Rattle.node_filter.specs.Hits.{hit_near, near_item, range_item}
-use Rattle.collective_query.specs.Choices.{IsWithin, IsCut}
+use Rattle.group_search.specs.Choices.{IsWithin, IsCut}
 use Rattle.collective_query.specs.TreePicks.{pick_in, pick_item, tree_picks, pick_from, word_hits, hits_within, near_picks}
-use Rattle.collective_query.proofs.Members.{contains-flat, contains-map, all-ranked, among-ranked}
+use Rattle.group_search.proofs.Members.{contains-flat, contains-map, all-ranked, among-ranked}
 use Rattle.best_first.proofs.Histories.{contains_head as contains-here}
 use Rattle.boolean_queries.proofs.Histories.{all-contained}
 

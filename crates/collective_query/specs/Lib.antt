@@ -1,10 +1,3 @@
-pub mod Choices
-pub mod Joins
-pub mod Blocks
-pub mod Picks
 pub mod TreePicks
-pub mod Tried
 pub mod Searches
 pub mod Opened
-pub mod Fronts
-pub mod Leads

@@ -1,13 +1,12 @@
 //! The candidates for a word.
-ghost use Rattle.std.specs.Prelude.{◌≡◌, ◌<◌, ◌++◌, ℕ, List, true, Vec, IfOk, length, get_or};
-ghost use Rattle.std.specs.List.{AllByRecursion, Contains};
+ghost use Rattle.std.specs.Prelude.{◌≡◌, ◌<◌, ◌++◌, ℕ, List, true, Vec, IfOk};
+ghost use Rattle.std.specs.List.{Contains};
 ghost use Rattle.std.specs.declared.alloc.Global.{Global};
-ghost use Rattle.spatial_base.specs.Point.{Viewpoint};
 ghost use Rattle.place_values.specs.declared.query.Pick.{Pick};
 ghost use Rattle.best_first.specs.Fits.{FitsTree, nodes_at};
-ghost use Rattle.collective_query.specs.Choices.{IsInBoth, IsCut};
+ghost use Rattle.group_search.specs.Choices.{IsInBoth, IsCut};
 ghost use Rattle.collective_query.specs.Opened.{FindsPicks};
-ghost use Rattle.collective_query.specs.Picks.{AreNear, AreMeasured, GoesBeyond, picks_of};
+ghost use Rattle.group_search.specs.Picks.{AreNear, AreMeasured, GoesBeyond};
 ghost use Rattle.collective_query.specs.Searches.{Searches};
 ghost use Rattle.collective_query.specs.TreePicks.{tree_picks, first_picks, near_picks};
 
@@ -110,18 +109,4 @@ pub(crate) fn candidates<P: Pages>(
         };
     }
     near_with(alloc, pages, tree, ids, at, centre, radius, word)
-}
-
-/// Returns the picks of one of several lists, or none if there are fewer lists.
-pub(crate) fn list_at(lists: &[Vec<Pick>], at: usize) -> &[Pick]
-    requires { AllByRecursion (λ (list : Vec Pick Global). AreNear list.items) lists.now }
-    ensures list { at < length lists.now → (d : Vec Pick Global) → result.now ≡ (get_or lists.now at d).items }
-    ensures among { (pick : Pick) → Contains result.now pick → Contains (picks_of lists.now) pick }
-    ensures near { AreNear result.now }
-    ensures measured { (at : Viewpoint) → AllByRecursion (λ (list : Vec Pick Global). AreMeasured at list.items) lists.now → AreMeasured at result.now }
-{
-    match lists.get(at) {
-        Some(list) => list,
-        None => &[],
-    }
 }

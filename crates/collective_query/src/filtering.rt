@@ -7,24 +7,22 @@ ghost use Rattle.place_values.specs.declared.query.Pick.{Pick};
 ghost use Rattle.place_values.specs.Group.{choice_cost};
 ghost use Rattle.place_values.specs.Search.{lists_in};
 ghost use Rattle.best_first.specs.Fits.{FitsTree, nodes_at};
-ghost use Rattle.collective_query.specs.Choices.{IsChoice};
-ghost use Rattle.collective_query.specs.Leads.{led_by};
+ghost use Rattle.group_search.specs.Choices.{IsChoice};
+ghost use Rattle.group_search.specs.Leads.{led_by};
 ghost use Rattle.collective_query.specs.Opened.{FindsPicks};
-ghost use Rattle.collective_query.specs.Picks.{AreNear, AreMeasured, picks_of};
+ghost use Rattle.group_search.specs.Picks.{AreNear, AreMeasured, picks_of};
 ghost use Rattle.collective_query.specs.Searches.{Searches};
 ghost use Rattle.collective_query.specs.TreePicks.{tree_lists, first_lists};
 
-use crate::candidates::list_at;
-use crate::costing::least_cost;
 use crate::gathering::companions;
-use crate::joining::by_length;
 use crate::nearest::NEAREST;
+use group_search::{list_at, may_cost};
 use node_filter::Ids;
 use node_rows::Tree;
 use page_face::{PageFault, Pages};
 use place_values::Pick;
 use spatial_base::Origin;
-use std::alloc::{AllocError, Global};
+use std::alloc::Global;
 use term_impacts::Word;
 
 /// A word is frequent in a circle that is more than so many times as wide as the one that has its nearest picks. If its places lay evenly,
@@ -56,19 +54,6 @@ fn is_alone(index: usize, own: usize, nearest: &[Pick], radius: u64) -> bool
     ensures { result ≡ false → index ≢ own }
 {
     index == own || is_frequent(nearest, radius)
-}
-
-// Whether picks of which each list has one may cost at most so much.
-fn may_cost(alloc: Global, at: &Origin, lists: &[Vec<Pick>], most: u64) -> Result<bool, AllocError>
-    requires near { AllByRecursion (λ (list : Vec Pick Global). AreNear list.items) lists.now }
-    requires most { most ≤ 5091168824 }
-    ensures { IfOk result (λ may. may ≡ false → AllByRecursion (λ (list : Vec Pick Global). AreMeasured at.now list.items) lists.now
-        → (picks : List Pick) → ((list : List Pick) → Contains (lists_in lists.now) list → (pick : Pick) × Contains picks pick × Contains list pick) → most < choice_cost at.now picks) }
-{
-    let sorted = by_length(alloc, lists)?;
-    let mut front = Vec::new(alloc);
-    let least = least_cost(at, &sorted, &mut front, 0, 0, most + 1, most)?;
-    Ok(least <= most)
 }
 
 // The picks round a lead pick for each word that isn't frequent there, and the lead pick alone for its own word and the others.

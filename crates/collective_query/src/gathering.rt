@@ -6,31 +6,23 @@ ghost use Rattle.spatial_base.specs.Point.{distance};
 ghost use Rattle.place_values.specs.declared.query.Pick.{Pick};
 ghost use Rattle.place_values.specs.Search.{lists_in};
 ghost use Rattle.best_first.specs.Fits.{FitsTree, nodes_at};
-ghost use Rattle.collective_query.specs.Choices.{IsCut};
-ghost use Rattle.collective_query.specs.Leads.{led_by, IsWanted, AreGathered, OfEach, gathered_picks};
+ghost use Rattle.group_search.specs.Choices.{IsCut};
+ghost use Rattle.group_search.specs.Leads.{led_by, IsWanted, AreGathered, OfEach, gathered_picks};
 ghost use Rattle.collective_query.specs.Opened.{FindsPicks};
-ghost use Rattle.collective_query.specs.Picks.{AreNear, AreMeasured, picks_of};
+ghost use Rattle.group_search.specs.Picks.{AreNear, AreMeasured, picks_of};
 ghost use Rattle.collective_query.specs.Searches.{Searches};
 ghost use Rattle.collective_query.specs.TreePicks.{tree_picks, tree_lists, first_picks, first_lists};
 
-use crate::candidates::{candidates, list_at};
+use crate::candidates::candidates;
 use crate::nearest::nearest_picks;
+use group_search::{alone, list_at};
 use node_filter::Ids;
 use node_rows::Tree;
 use page_face::{PageFault, Pages};
 use place_values::Pick;
 use spatial_base::Origin;
-use std::alloc::{AllocError, Global};
+use std::alloc::Global;
 use term_impacts::Word;
-
-/// Returns a pick alone.
-pub(crate) fn alone(alloc: Global, pick: &Pick) -> Result<Vec<Pick>, AllocError>
-    ensures { IfOk result (λ picks. picks.items ≡ pick.now ∷ []) }
-{
-    let mut picks = Vec::new(alloc);
-    picks.push(*pick)?;
-    Ok(picks)
-}
 
 /// Returns the picks for a word round a lead pick. For the lead's own word this is the lead pick alone. Else it is all that may be in a
 /// choice with it that costs at most so much, or those nearest to it if no cost is given.

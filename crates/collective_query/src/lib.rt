@@ -16,31 +16,18 @@
 //! left, and the many places of the frequent word aren't looked for.
 //!
 //! If the leads are at many points, no circle is looked at in the tree. All places of each word that are no farther from the point than the
-//! best choice costs are read once, and kept in memory in blocks of neighbours. For each lead the place of each other word is found with
-//! which a choice may cost least. The greatest of these costs bounds each choice with the lead from below, and these places are a choice,
-//! too. Leads are then followed in the order of their bounds. One is passed over only if its bound is greater than the best choice costs.
-//!
-//! Of the places that are found those are dropped that can't be in so cheap a choice with any place of the shortest list. Then the least
-//! cost is looked for, with the shortest lists first, and in each list with those places first that cost least with the shortest list's
-//! first. Places that begin a choice are left once a list has none that can go on for less.
-//! Last come the keys: for each word in turn the least one with which the others can still be chosen within that cost.
+//! best choice costs are read once, and kept in memory. [`group_search`] finds the least choice of them.
 //!
 //! Tests: `search_tests/src/collective_query_tests.rt`.
 #![tactic(auto)]
 
 mod anchoring;
-mod bounding;
 mod candidates;
-mod costing;
 mod filtering;
+mod following;
 mod gathering;
-mod joining;
-mod keys;
-mod leading;
 mod nearest;
-mod packing;
 mod picks;
 mod query;
-mod search;
 
 pub use query::group;

@@ -6,7 +6,7 @@ ghost use Rattle.place_values.specs.declared.query.Pick.{Pick};
 ghost use Rattle.place_values.specs.Search.{lists_in};
 ghost use Rattle.best_first.specs.Fits.{FitsTree, nodes_at};
 ghost use Rattle.collective_query.specs.Opened.{FindsPicks};
-ghost use Rattle.collective_query.specs.Picks.{AreNear, AreMeasured, picks_of};
+ghost use Rattle.group_search.specs.Picks.{AreNear, AreMeasured, picks_of};
 ghost use Rattle.collective_query.specs.Searches.{Searches};
 ghost use Rattle.collective_query.specs.TreePicks.{first_picks, first_lists};
 

@@ -1,6 +1,6 @@
 //! Hits as picks.
 ghost use Rattle.std.specs.Prelude.{◌≡◌, ◌≤◌, map, IfOk};
-ghost use Rattle.collective_query.specs.Picks.{AreNear, AreMeasured};
+ghost use Rattle.group_search.specs.Picks.{AreNear, AreMeasured};
 ghost use Rattle.collective_query.specs.TreePicks.{pick_from};
 
 use place_values::{Hit, Pick};

@@ -10,14 +10,14 @@ ghost use Rattle.place_values.specs.Group.{least_of};
 ghost use Rattle.place_values.specs.Search.{lists_in};
 ghost use Rattle.best_first.specs.Fits.{FitsTree, nodes_at};
 ghost use Rattle.collective_query.specs.Opened.{FindsPicks, picks_in};
-ghost use Rattle.collective_query.specs.Picks.{AreNear, AreMeasured};
+ghost use Rattle.group_search.specs.Picks.{AreNear, AreMeasured};
 ghost use Rattle.collective_query.specs.Searches.{IsSearchHarm};
 ghost use Rattle.collective_query.specs.TreePicks.{tree_choices};
-ghost use Rattle.collective_query.specs.Tried.{IsTaken, IsLeast};
+ghost use Rattle.group_search.specs.Tried.{IsTaken, IsLeast};
 
 use crate::anchoring::{lead_among, search_by_anchor};
 use crate::nearest::nearest_each;
-use crate::search::least_choice;
+use group_search::least_choice;
 use node_filter::Ids;
 use node_rows::Tree;
 use page_face::{Damage, PageFault, Pages};

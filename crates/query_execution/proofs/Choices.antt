@@ -21,8 +21,8 @@ use Rattle.node_filter.specs.Numbers.{Numbers}
 use Rattle.best_first.specs.Fits.{nodes_at}
 use Rattle.collective_query.specs.TreePicks.{pick_item, tree_picks, tree_choices}
 use Rattle.collective_query.proofs.Agreements.{pick-agrees}
-use Rattle.collective_query.proofs.Least.{least-same}
-use Rattle.collective_query.proofs.Products.{AreSame, product-same}
+use Rattle.group_search.proofs.Least.{least-same}
+use Rattle.group_search.proofs.Products.{AreSame, product-same}
 use Rattle.store_tables.specs.Coded.{IsPlaceEntry}
 use Rattle.store_tables.specs.Entries.{Entries}
 use Rattle.store_tables.specs.declared.tables.Tables.{Tables}

@@ -40,7 +40,7 @@ use Rattle.query_execution.specs.Answers.{cut_by, hits_by, IsAnswer}
 use Rattle.query_execution.proofs.Kept.{AreKept}
 use Rattle.query_execution.proofs.Impacts.{word-impact}
 use Rattle.query_execution.proofs.Words.{AgreeAmong, agree-by, agree-weighed}
-use Rattle.collective_query.proofs.Products.{weight-mapped}
+use Rattle.group_search.proofs.Products.{weight-mapped}
 
 -- the item of an entry of the place table
 abbrev pub item_at : Name × Stored → Item

@@ -5,7 +5,7 @@ use Rattle.page_face.specs.FreeList.{PageMap}
 use Rattle.place_values.specs.declared.query.Pick.{Pick}
 use Rattle.place_values.specs.declared.query.Chosen.{Chosen}
 use Rattle.best_first.specs.Fits.{nodes_at}
-use Rattle.collective_query.specs.Leads.{led_by, AreLeads, IsWanted, Betters}
+use Rattle.group_search.specs.Leads.{led_by, AreLeads, IsWanted, Betters}
 use Rattle.collective_query.specs.Opened.{FindsPicks}
 use Rattle.collective_query.specs.TreePicks.{tree_lists}
 use Rattle.collective_query.proofs.anchoring.begin.Goals as goal

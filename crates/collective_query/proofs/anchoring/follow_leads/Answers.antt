@@ -7,8 +7,8 @@ use Rattle.place_values.specs.declared.query.Chosen.{Chosen}
 use Rattle.best_first.specs.Fits.{nodes_at}
 use Rattle.collective_query.specs.Opened.{FindsPicks}
 use Rattle.collective_query.specs.TreePicks.{tree_picks, tree_lists}
-use Rattle.collective_query.specs.Tried.{IsBest}
-use Rattle.collective_query.proofs.Blocks.{best-follows}
+use Rattle.group_search.specs.Tried.{IsBest}
+use Rattle.group_search.proofs.Blocks.{best-follows}
 use Rattle.collective_query.proofs.anchoring.follow_leads.Goals as goal
 
 pub returns-then-points-gt-MANY-clause-followed : goal.returns-then-points-gt-MANY-clause-followed

@@ -1,7 +1,7 @@
 use Rattle.std.proofs.Common.{Vec, Global, take}
 use Rattle.std.specs.List.{AllByRecursion}
 use Rattle.place_values.specs.declared.query.Pick.{Pick}
-use Rattle.collective_query.specs.Picks.{GoesBeyond}
+use Rattle.group_search.specs.Picks.{GoesBeyond}
 use Rattle.collective_query.proofs.anchoring.lead_among.Given as goal
 
 -- the lists so far have all picks that are so near

@@ -9,15 +9,15 @@ use Rattle.best_first.specs.Lists.{all_in, all_weaker}
 use Rattle.place_values.specs.declared.query.Pick.{Pick}
 use Rattle.place_values.specs.declared.query.Chosen.{Chosen}
 use Rattle.best_first.specs.Fits.{FitsTree, nodes_at}
-use Rattle.collective_query.specs.Choices.{IsWithin, IsInBoth, IsCut}
-use Rattle.collective_query.specs.Leads.{AreLeads, Follows}
+use Rattle.group_search.specs.Choices.{IsWithin, IsInBoth, IsCut}
+use Rattle.group_search.specs.Leads.{AreLeads, Follows}
 use Rattle.collective_query.specs.Opened.{FindsPicks}
-use Rattle.collective_query.specs.Picks.{picks_of}
+use Rattle.group_search.specs.Picks.{picks_of}
 use Rattle.collective_query.specs.TreePicks.{tree_picks, tree_lists, first_picks, first_lists}
-use Rattle.collective_query.specs.Tried.{IsChosen}
-use Rattle.collective_query.proofs.Cuts.{cut-wider}
+use Rattle.group_search.specs.Tried.{IsChosen}
+use Rattle.group_search.proofs.Cuts.{cut-wider}
 use Rattle.collective_query.proofs.Firsts.{first-among}
-use Rattle.collective_query.proofs.Leads.{follows-all}
+use Rattle.group_search.proofs.Leads.{follows-all}
 use Rattle.collective_query.proofs.Opened.{finds-fewer}
 use Rattle.collective_query.proofs.Searches.{searches-give, searches-refused, searches-then}
 use Rattle.collective_query.proofs.anchoring.search_by_anchor.Goals as goal

@@ -7,12 +7,12 @@ use Rattle.place_values.specs.declared.query.Pick.{Pick}
 use Rattle.place_values.specs.declared.query.Chosen.{Chosen}
 use Rattle.place_values.specs.Search.{lists_in}
 use Rattle.best_first.specs.Fits.{nodes_at}
-use Rattle.collective_query.specs.Choices.{IsWithin, IsInBoth, AreCut}
+use Rattle.group_search.specs.Choices.{IsWithin, IsInBoth, AreCut}
 use Rattle.collective_query.specs.Opened.{FindsPicks}
-use Rattle.collective_query.specs.Picks.{picks_of}
+use Rattle.group_search.specs.Picks.{picks_of}
 use Rattle.collective_query.specs.TreePicks.{tree_picks}
-use Rattle.collective_query.specs.Tried.{IsChosen, IsBest}
-use Rattle.collective_query.proofs.Blocks.{cuts-wider, cut-length, within-chosen, within-best}
+use Rattle.group_search.specs.Tried.{IsChosen, IsBest}
+use Rattle.group_search.proofs.Blocks.{cuts-wider, cut-length, within-chosen, within-best}
 use Rattle.collective_query.proofs.Opened.{finds-fewer, choice-picks}
 use Rattle.collective_query.proofs.anchoring.search_within.Goals as goal
 

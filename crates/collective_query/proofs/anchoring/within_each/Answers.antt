@@ -7,11 +7,11 @@ use Rattle.best_first.specs.Lists.{all_append}
 use Rattle.place_values.specs.declared.query.Pick.{Pick}
 use Rattle.place_values.specs.Search.{lists_in}
 use Rattle.best_first.specs.Fits.{FitsTree, nodes_at}
-use Rattle.collective_query.specs.Choices.{IsInBoth, IsCut, AreCut}
+use Rattle.group_search.specs.Choices.{IsInBoth, IsCut, AreCut}
 use Rattle.collective_query.specs.Opened.{FindsPicks}
-use Rattle.collective_query.specs.Picks.{AreNear, AreMeasured, picks_of}
+use Rattle.group_search.specs.Picks.{AreNear, AreMeasured, picks_of}
 use Rattle.collective_query.specs.TreePicks.{tree_picks, first_picks}
-use Rattle.collective_query.proofs.Cuts.{cut-push}
+use Rattle.group_search.proofs.Cuts.{cut-push}
 use Rattle.collective_query.proofs.Opened.{finds-behind}
 use Rattle.collective_query.proofs.Searches.{searches-give, searches-refused, searches-then}
 use Rattle.collective_query.proofs.anchoring.within_each.Goals as goal

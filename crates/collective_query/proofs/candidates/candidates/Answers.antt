@@ -6,11 +6,11 @@ use Rattle.page_face.specs.FreeList.{PageMap}
 use Rattle.place_values.specs.declared.query.Pick.{Pick}
 use Rattle.rtree_nodes.specs.Slots.{NodeMap}
 use Rattle.best_first.specs.Fits.{nodes_at}
-use Rattle.collective_query.specs.Choices.{IsWithin, IsInBoth, IsCut}
+use Rattle.group_search.specs.Choices.{IsWithin, IsInBoth, IsCut}
 use Rattle.collective_query.specs.Opened.{FindsPicks}
-use Rattle.collective_query.specs.Picks.{GoesBeyond}
+use Rattle.group_search.specs.Picks.{GoesBeyond}
 use Rattle.collective_query.specs.TreePicks.{tree_picks, near_picks, first_picks}
-use Rattle.collective_query.proofs.Cuts.{cut-wider}
+use Rattle.group_search.proofs.Cuts.{cut-wider}
 use Rattle.collective_query.proofs.Firsts.{first-cut}
 use Rattle.collective_query.proofs.Opened.{finds-fewer, finds-then}
 use Rattle.collective_query.proofs.TreePicks.{near-cut}

@@ -5,9 +5,9 @@ use Rattle.std.specs.List.{Contains}
 use Rattle.place_values.specs.declared.query.Pick.{Pick}
 use Rattle.place_values.specs.Group.{choice_cost}
 use Rattle.place_values.specs.Search.{lists_in}
-use Rattle.collective_query.specs.Picks.{picks_of}
+use Rattle.group_search.specs.Picks.{picks_of}
 use Rattle.collective_query.proofs.Opened.{finds-fewer}
-use Rattle.collective_query.proofs.Searched.{Each}
+use Rattle.group_search.proofs.Searched.{Each}
 use Rattle.collective_query.proofs.filtering.may_anchor.Goals as goal
 
 pub returns-in-Ok-may_cost-clause-refused : goal.returns-in-Ok-may_cost-clause-refused

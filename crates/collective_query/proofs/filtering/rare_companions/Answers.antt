@@ -7,13 +7,13 @@ use Rattle.best_first.specs.Lists.{all_append}
 use Rattle.place_values.specs.declared.query.Pick.{Pick}
 use Rattle.place_values.specs.Search.{lists_in}
 use Rattle.best_first.specs.Fits.{FitsTree, nodes_at}
-use Rattle.collective_query.specs.Choices.{IsCut}
-use Rattle.collective_query.specs.Leads.{IsWanted}
+use Rattle.group_search.specs.Choices.{IsCut}
+use Rattle.group_search.specs.Leads.{IsWanted}
 use Rattle.collective_query.specs.Opened.{FindsPicks}
-use Rattle.collective_query.specs.Picks.{AreNear, AreMeasured, picks_of}
+use Rattle.group_search.specs.Picks.{AreNear, AreMeasured, picks_of}
 use Rattle.collective_query.specs.TreePicks.{tree_picks, first_picks}
-use Rattle.collective_query.proofs.Leads.{companion-met}
-use Rattle.collective_query.proofs.Members.{contains-cases, contains-none}
+use Rattle.group_search.proofs.Leads.{companion-met}
+use Rattle.group_search.proofs.Members.{contains-cases, contains-none}
 use Rattle.collective_query.proofs.Opened.{finds-behind}
 use Rattle.collective_query.proofs.Searches.{searches-give, searches-refused, searches-then}
 use Rattle.collective_query.proofs.filtering.rare_companions.Goals as goal

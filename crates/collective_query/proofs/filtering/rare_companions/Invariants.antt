@@ -4,10 +4,10 @@ use Rattle.place_values.specs.declared.query.Pick.{Pick}
 use Rattle.place_values.specs.Group.{choice_cost}
 use Rattle.place_values.specs.Search.{lists_in}
 use Rattle.best_first.specs.Fits.{FitsTree, nodes_at}
-use Rattle.collective_query.specs.Choices.{IsChoice}
-use Rattle.collective_query.specs.Leads.{led_by}
+use Rattle.group_search.specs.Choices.{IsChoice}
+use Rattle.group_search.specs.Leads.{led_by}
 use Rattle.collective_query.specs.Opened.{FindsPicks}
-use Rattle.collective_query.specs.Picks.{AreNear, AreMeasured, picks_of}
+use Rattle.group_search.specs.Picks.{AreNear, AreMeasured, picks_of}
 use Rattle.collective_query.specs.Searches.{Searches}
 use Rattle.collective_query.specs.TreePicks.{tree_lists, first_lists}
 use Rattle.collective_query.proofs.filtering.rare_companions.Given as goal

@@ -5,11 +5,11 @@ use Rattle.spatial_base.specs.Point.{Viewpoint, seen_from, distance}
 use Rattle.place_values.specs.declared.query.Pick.{Pick}
 use Rattle.rtree_nodes.specs.Slots.{NodeMap}
 use Rattle.best_first.specs.Fits.{nodes_at}
-use Rattle.collective_query.specs.Choices.{IsInBoth, IsCut}
-use Rattle.collective_query.specs.Leads.{IsBeside, IsWanted}
+use Rattle.group_search.specs.Choices.{IsInBoth, IsCut}
+use Rattle.group_search.specs.Leads.{IsBeside, IsWanted}
 use Rattle.collective_query.specs.Opened.{FindsPicks}
 use Rattle.collective_query.specs.TreePicks.{tree_picks, first_picks}
-use Rattle.collective_query.proofs.Cuts.{cut-wider}
+use Rattle.group_search.proofs.Cuts.{cut-wider}
 use Rattle.collective_query.proofs.Firsts.{first-among}
 use Rattle.collective_query.proofs.Opened.{finds-then}
 use Rattle.collective_query.proofs.gathering.companions.Goals as goal

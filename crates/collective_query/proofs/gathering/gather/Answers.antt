@@ -8,13 +8,13 @@ use Rattle.best_first.specs.Lists.{all_append}
 use Rattle.place_values.specs.declared.query.Pick.{Pick}
 use Rattle.place_values.specs.Search.{lists_in}
 use Rattle.best_first.specs.Fits.{FitsTree, nodes_at}
-use Rattle.collective_query.specs.Choices.{IsCut, AreCut}
-use Rattle.collective_query.specs.Leads.{led_by, IsWanted}
+use Rattle.group_search.specs.Choices.{IsCut, AreCut}
+use Rattle.group_search.specs.Leads.{led_by, IsWanted}
 use Rattle.collective_query.specs.Opened.{FindsPicks}
-use Rattle.collective_query.specs.Picks.{AreNear, AreMeasured, picks_of}
+use Rattle.group_search.specs.Picks.{AreNear, AreMeasured, picks_of}
 use Rattle.collective_query.specs.TreePicks.{tree_picks, first_picks}
-use Rattle.collective_query.proofs.Cuts.{cut-push, none-counted}
-use Rattle.collective_query.proofs.Leads.{led-length, led-here}
+use Rattle.group_search.proofs.Cuts.{cut-push, none-counted}
+use Rattle.group_search.proofs.Leads.{led-length, led-here}
 use Rattle.collective_query.proofs.Opened.{finds-behind, finds-fewer}
 use Rattle.collective_query.proofs.Searches.{searches-give, searches-refused, searches-then}
 use Rattle.collective_query.proofs.gathering.gather.Goals as goal

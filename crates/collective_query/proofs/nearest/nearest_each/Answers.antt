@@ -8,7 +8,7 @@ use Rattle.place_values.specs.declared.query.Pick.{Pick}
 use Rattle.place_values.specs.Search.{lists_in}
 use Rattle.best_first.specs.Fits.{FitsTree, nodes_at}
 use Rattle.collective_query.specs.Opened.{FindsPicks}
-use Rattle.collective_query.specs.Picks.{AreNear, AreMeasured}
+use Rattle.group_search.specs.Picks.{AreNear, AreMeasured}
 use Rattle.collective_query.specs.TreePicks.{first_picks}
 use Rattle.collective_query.proofs.Opened.{finds-pushed}
 use Rattle.collective_query.proofs.Searches.{searches-give, searches-refused, searches-then}

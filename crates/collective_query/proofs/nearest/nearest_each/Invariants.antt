@@ -4,7 +4,7 @@ use Rattle.place_values.specs.declared.query.Pick.{Pick}
 use Rattle.place_values.specs.Search.{lists_in}
 use Rattle.best_first.specs.Fits.{FitsTree, nodes_at}
 use Rattle.collective_query.specs.Opened.{FindsPicks}
-use Rattle.collective_query.specs.Picks.{AreNear, AreMeasured, picks_of}
+use Rattle.group_search.specs.Picks.{AreNear, AreMeasured, picks_of}
 use Rattle.collective_query.specs.Searches.{Searches}
 use Rattle.collective_query.specs.TreePicks.{first_lists}
 use Rattle.collective_query.proofs.nearest.nearest_each.Given as goal

@@ -1,5 +1,5 @@
 use Rattle.std.proofs.Common.{◌≡◌, map, take}
-use Rattle.collective_query.specs.Picks.{AreNear, AreMeasured}
+use Rattle.group_search.specs.Picks.{AreNear, AreMeasured}
 use Rattle.collective_query.specs.TreePicks.{pick_from}
 use Rattle.collective_query.proofs.picks.picks_from.Given as goal
 

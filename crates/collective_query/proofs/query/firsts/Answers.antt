@@ -3,8 +3,8 @@ use Rattle.std.proofs.lemmas.List.{map-append, take_more}
 use Rattle.std.specs.List.{Contains}
 use Rattle.place_values.specs.declared.query.Pick.{Pick}
 use Rattle.place_values.specs.Search.{lists_in}
-use Rattle.collective_query.specs.Choices.{IsChoice}
-use Rattle.collective_query.proofs.Products.{choice-push}
+use Rattle.group_search.specs.Choices.{IsChoice}
+use Rattle.group_search.proofs.Products.{choice-push}
 use Rattle.collective_query.proofs.query.firsts.Goals as goal
 
 pub loop-list-preserved : goal.loop-list-preserved

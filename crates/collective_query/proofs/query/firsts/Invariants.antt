@@ -1,6 +1,6 @@
 use Rattle.std.proofs.Common.{take}
 use Rattle.place_values.specs.Search.{lists_in}
-use Rattle.collective_query.specs.Choices.{IsChoice}
+use Rattle.group_search.specs.Choices.{IsChoice}
 use Rattle.collective_query.proofs.query.firsts.Given as goal
 
 -- the first picks of the lists so far

@@ -3,9 +3,9 @@ use Rattle.place_values.specs.declared.query.Pick.{Pick}
 use Rattle.place_values.specs.declared.query.Chosen.{Chosen}
 use Rattle.place_values.specs.Group.{choice_cost}
 use Rattle.place_values.specs.Search.{lists_in}
-use Rattle.collective_query.specs.Choices.{IsChoice}
-use Rattle.collective_query.specs.Tried.{IsTaken, IsChosen}
-use Rattle.collective_query.proofs.Leads.{new-chosen, new-first}
+use Rattle.group_search.specs.Choices.{IsChoice}
+use Rattle.group_search.specs.Tried.{IsTaken, IsChosen}
+use Rattle.group_search.proofs.Leads.{new-chosen, new-first}
 use Rattle.collective_query.proofs.query.least_among.Goals as goal
 
 pub returns-clause-least : goal.returns-clause-least

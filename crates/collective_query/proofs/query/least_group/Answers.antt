@@ -11,14 +11,14 @@ use Rattle.place_values.specs.Search.{lists_in}
 use Rattle.rtree_nodes.specs.Slots.{NodeMap}
 use Rattle.best_first.specs.Fits.{FitsTree, nodes_at}
 use Rattle.collective_query.specs.Opened.{FindsPicks}
-use Rattle.collective_query.specs.Picks.{AreMeasured, GoesBeyond, picks_of}
+use Rattle.group_search.specs.Picks.{AreMeasured, GoesBeyond, picks_of}
 use Rattle.collective_query.specs.TreePicks.{tree_lists, first_picks, first_lists}
-use Rattle.collective_query.specs.Tried.{IsChosen, IsFirst, IsLeast}
+use Rattle.group_search.specs.Tried.{IsChosen, IsFirst, IsLeast}
 use Rattle.collective_query.proofs.Firsts.{first-chosen, firsts-cut, no-first}
-use Rattle.collective_query.proofs.Leads.{cut-first, first-least}
-use Rattle.collective_query.proofs.Members.{map-all}
+use Rattle.group_search.proofs.Leads.{cut-first, first-least}
+use Rattle.group_search.proofs.Members.{map-all}
 use Rattle.collective_query.proofs.Opened.{choice-picks, finds-fewer}
-use Rattle.collective_query.proofs.Products.{product-none}
+use Rattle.group_search.proofs.Products.{product-none}
 use Rattle.collective_query.proofs.Searches.{searches-give, searches-refused, searches-then}
 use Rattle.collective_query.proofs.query.least_group.Goals as goal
 

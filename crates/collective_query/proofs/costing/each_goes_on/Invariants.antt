@@ -1,4 +1,0 @@
-use Rattle.collective_query.proofs.costing.each_goes_on.Given as goal
-
-abbrev pub invariant-loop-list : goal.invariant-loop-list
-invariant-loop-list l = Unit {0}

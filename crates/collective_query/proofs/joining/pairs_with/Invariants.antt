@@ -1,7 +1,0 @@
-use Rattle.std.proofs.Common.{◌≡◌, map, take}
-use Rattle.collective_query.specs.declared.joining.Paired.{Paired}
-use Rattle.collective_query.proofs.joining.pairs_with.Given as goal
-
--- so it is with the picks so far
-abbrev pub invariant-loop-pick : goal.invariant-loop-pick
-invariant-loop-pick l = map (λ (pair : Paired). pair.pick) l.pairs.items ≡ take l.pick-index l.picks

@@ -1,7 +1,0 @@
-use Rattle.std.proofs.Common.{◌≡◌, map, take}
-use Rattle.collective_query.specs.declared.joining.Paired.{Paired}
-use Rattle.collective_query.proofs.joining.picks_in.Given as goal
-
--- the picks of the pairs so far
-abbrev pub invariant-loop-pair : goal.invariant-loop-pair
-invariant-loop-pair l = l.picks.items ≡ map (λ (pair : Paired). pair.pick) (take l.pair-index l.pairs)

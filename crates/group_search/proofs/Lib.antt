@@ -1,0 +1,12 @@
+pub mod Costs
+pub mod Members
+pub mod Products
+pub mod Least
+pub mod Joins
+pub mod Fronts
+pub mod Nexts
+pub mod Cuts
+pub mod Searched
+pub mod Leads
+pub mod Behind
+pub mod Blocks
