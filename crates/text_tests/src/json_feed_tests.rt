@@ -30,35 +30,43 @@ fn in_pieces(alloc: Global, bytes: &[u8], size: usize) -> Result<Tree, JsonFault
     feed.end()
 }
 
-/// Checks that a feed gives the same as the whole text, wherever the text is cut.
-fn check_cuts(rt: HostRuntime, bytes: &[u8]) {
-    let whole = read_tree(rt.alloc(), bytes);
+/// Whether a feed gives the same as the whole text, wherever the text is cut.
+fn is_same_in_two(alloc: Global, bytes: &[u8]) -> bool {
+    let whole = read_tree(alloc, bytes);
     for cut in 0..bytes.len() {
-        assert!(rt;
-            in_two(rt.alloc(), bytes, cut) == whole,
-            "{bytes:?} at {cut}"
-        );
+        if in_two(alloc, bytes, cut) != whole {
+            return false;
+        }
     }
+    true
+}
+
+/// Whether a feed gives the same as the whole text, in pieces of each length.
+fn is_same_in_pieces(alloc: Global, bytes: &[u8]) -> bool {
+    let whole = read_tree(alloc, bytes);
     for size in &SIZES {
-        assert!(rt;
-            in_pieces(rt.alloc(), bytes, (*size).max(1)) == whole,
-            "{bytes:?} by {size}"
-        );
+        if in_pieces(alloc, bytes, (*size).max(1)) != whole {
+            return false;
+        }
     }
+    true
 }
 
 #[test]
 fn texts_have_their_values_wherever_they_are_cut(rt: HostRuntime) {
     for (text, _) in &VALUES {
-        check_cuts(rt, text.as_bytes());
+        assert!(rt; is_same_in_two(rt.alloc(), text.as_bytes()), "{text}");
+        assert!(rt; is_same_in_pieces(rt.alloc(), text.as_bytes()), "{text}");
     }
-    check_cuts(rt, TEXT.as_bytes());
+    assert!(rt; is_same_in_two(rt.alloc(), TEXT.as_bytes()));
+    assert!(rt; is_same_in_pieces(rt.alloc(), TEXT.as_bytes()));
 }
 
 #[test]
 fn refusals_name_the_first_offence_wherever_the_text_is_cut(rt: HostRuntime) {
     for (bytes, _) in &REFUSALS {
-        check_cuts(rt, bytes);
+        assert!(rt; is_same_in_two(rt.alloc(), bytes), "{bytes:?}");
+        assert!(rt; is_same_in_pieces(rt.alloc(), bytes), "{bytes:?}");
     }
 }
 
