@@ -1,6 +1,7 @@
 pub mod Numbers
 pub mod Chops
 pub mod Writes
+pub mod Tails
 pub mod Overlaps
 pub mod Supplies
 pub mod Gives

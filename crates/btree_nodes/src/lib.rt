@@ -7,7 +7,7 @@
 //!
 //! The cells of a page have one width, follow one another without a gap, and each begins with its key. Keys of one length are
 //! numbers here, the first byte being the highest, so that every fact of order is one about numbers. A changed page
-//! is never edited in place: its cells are gathered with [`splice`] and written by [`build`].
+//! is gathered of its cells with [`splice`] and written by [`build`], or a copy of it is edited in its place by [`edit_cells`].
 //!
 //! The way down ([`locate`]) is a loop over the levels, with no page buffer. A page that was checked since it came into memory isn't
 //! checked again. It ends on any bytes, and `Damaged` names a rule that a page breaks in its place.
@@ -40,4 +40,4 @@ pub use order::ascends;
 pub use recheck::seal_of;
 pub use sealed::{copy_value, inner_count, leaf_count, place_in, row_in};
 pub use store::store_one;
-pub use writing::{build, clear_key, copy_key, splice, write_at};
+pub use writing::{build, clear_key, copy_key, edit_cells, splice, write_at};

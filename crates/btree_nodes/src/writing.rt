@@ -1,5 +1,6 @@
 //! Pages that are built of cells, and a cell that is put among others.
-ghost use Rattle.std.specs.Prelude.{◌≡◌, ◌≤◌, ◌+◌, ◌-◌, ◌++◌, length, take, drop, replicate};
+ghost use Rattle.std.specs.Prelude.{◌≡◌, ℕ, ◌≤◌, ◌+◌, ◌-◌, ◌*◌, ◌++◌, length, take, drop, replicate};
+ghost use Rattle.page_face.specs.Nodes.{IsNode, count_of};
 ghost use Rattle.btree_nodes.specs.Build.{image};
 
 use page_face::Page;
@@ -65,4 +66,63 @@ pub fn splice(cells: &[u8], at: usize, until: usize, first: &[u8], second: &[u8]
     write_at(out, at, first);
     write_at(out, at + first.len(), second);
     write_at(out, at + first.len() + second.len(), &cells[until..]);
+}
+
+// Moves the bytes from `from` up to `size` to another place. Zeros after them stay zeros.
+fn move_tail(out: &mut [u8], size: usize, from: usize, to: usize)
+    requires from { from ≤ size }
+    requires size { size ≤ length out.old }
+    requires fits { to + (size - from) ≤ length out.old }
+    ensures front { (at : ℕ) → at ≤ from → at ≤ to → take at out.new ≡ take at out.old }
+    ensures back { drop size out.old ≡ replicate (length out.old - size) 0
+        → drop to out.new ≡ drop from (take size out.old) ++ replicate (length out.old - (to + (size - from))) 0 }
+{
+    if to == from {
+        return;
+    }
+    out.copy_within(from..size, to);
+    let end = to + (size - from);
+    if end < size {
+        out[end..size].fill(0);
+    }
+}
+
+// Writes a new cell, in two pieces, over those from `at` up to `until` of the first `size` bytes, which are cells, and moves the cells
+// behind them unless they stay. Zeros after the cells stay zeros.
+fn splice_in(out: &mut [u8], size: usize, at: usize, until: usize, first: &[u8], second: &[u8])
+    requires at { at ≤ until }
+    requires until { until ≤ size }
+    requires size { size ≤ length out.old }
+    requires fits { size + (length first.now + length second.now) ≤ length out.old + (until - at) }
+    ensures { drop size out.old ≡ replicate (length out.old - size) 0
+        → out.new ≡ (take at (take size out.old) ++ ((first.now ++ second.now) ++ drop until (take size out.old)))
+        ++ replicate (length out.old + (until - at) - (size + (length first.now + length second.now))) 0 }
+{
+    move_tail(out, size, until, at + first.len() + second.len());
+    write_at(out, at, first);
+    write_at(out, at + first.len(), second);
+}
+
+/// Replaces the cells from `at` up to `until` of a page by a new cell, in two pieces, and writes the count of its cells into its header.
+/// The page's cells have `size` bytes, and zeros after them.
+///
+/// Edits the page in its place: moves the cells from `until` on, unless the new cell is as long as those that it replaces.
+pub fn edit_cells(
+    page: &mut Page,
+    count: u16,
+    size: usize,
+    at: usize,
+    until: usize,
+    first: &[u8],
+    second: &[u8],
+)
+    requires at { at ≤ until }
+    requires until { until ≤ size }
+    requires size { 16 + size ≤ 4096 }
+    requires fits { 16 + size + (length first.now + length second.now) ≤ 4096 + (until - at) }
+    ensures { (number kind level width least : ℕ) → IsNode number kind level width least page.old → size ≡ width * count_of page.old
+        → page.new ≡ image number kind level count (take at (take size (drop 16 page.old)) ++ ((first.now ++ second.now) ++ drop until (take size (drop 16 page.old)))) }
+{
+    write_at(page, 2, &count.to_be_bytes());
+    splice_in(&mut page[16..], size, at, until, first, second);
 }

@@ -2,10 +2,12 @@
 ghost use Rattle.std.specs.Prelude.{◌≡◌, ◌≢◌, ◌↔◌, ℕ, ◌+◌, ◌-◌, ◌*◌, ◌<◌, ◌≤◌, List, length, IsTrue, IsErrOf, OnOk, OnErr, Some, None, false, if◌then◌else◌};
 ghost use Rattle.page_face.specs.Calls.{Changes, Reads, FailsReading};
 ghost use Rattle.page_face.specs.FreeList.{PageMap};
+ghost use Rattle.page_face.specs.Nodes.{count_of};
 ghost use Rattle.page_face.specs.Number.{number};
 ghost use Rattle.btree_nodes.specs.Bounds.{upper_of};
 ghost use Rattle.btree_nodes.specs.Build.{image};
 ghost use Rattle.btree_nodes.specs.Damages.{AreReadable, AskedSince, AsksOnly};
+ghost use Rattle.btree_nodes.specs.Nodes.{IsLeaf};
 ghost use Rattle.btree_nodes.specs.Rows.{Row, lookup, put, without};
 ghost use Rattle.btree_nodes.specs.Supply.{view};
 ghost use Rattle.btree_nodes.specs.Tree.{IsMap, map_rows, map_uses};
@@ -14,8 +16,8 @@ ghost use Rattle.paged_map.specs.Edits.{edited};
 ghost use Rattle.paged_map.specs.Maps.{HasBecome, IsKept, IsMapDamaged};
 
 use crate::draft::LeafDraft;
-use crate::editing::{Cut, cut_of, fill_leaf, has_room, spot_of};
-use btree_nodes::{Bounds, compare, copy_value, locate, seal_of};
+use crate::editing::{Cut, cut_of, has_room, spot_of};
+use btree_nodes::{Bounds, compare, copy_value, edit_cells, locate, seal_of};
 use page_face::{Damage, PageFault, Pages};
 use std::cmp::Ordering;
 
@@ -112,7 +114,8 @@ impl LeafDraft {
         true
     }
 
-    // Edits the cells of the leaf: two pieces replace those that are cut.
+    // Edits the cells of the leaf in their place: two pieces replace those that are cut. Moves the cells behind them, unless the pieces are
+    // as long.
     fn edit(&mut self, count: u16, cut: Cut, first: &[u8], second: &[u8])
         requires order { cut.from ≤ cut.until }
         requires end { cut.until ≤ cut.size }
@@ -124,26 +127,25 @@ impl LeafDraft {
         ensures least { self.new.least ≡ self.old.least }
         ensures bounds { self.new.bounds ≡ self.old.bounds }
         ensures count { self.new.count ≡ count }
-        ensures bytes { self.new.bytes ≡ image self.old.form.map 1 0 count (edited cut.size cut.from cut.until first.now second.now self.old.bytes) }
+        ensures bytes { IsLeaf self.old.form self.old.least self.old.bytes → cut.size ≡ (self.old.form.key + self.old.form.value) * count_of self.old.bytes
+            → self.new.bytes ≡ image self.old.form.map 1 0 count (edited cut.size cut.from cut.until first.now second.now self.old.bytes) }
     {
-        let mut bytes = [0; 4096];
-        fill_leaf(
-            &mut bytes,
-            &self.bytes,
-            self.form,
+        edit_cells(
+            &mut self.bytes,
             count,
-            cut,
+            cut.size,
+            cut.from,
+            cut.until,
             first,
             second,
         );
-        self.bytes = bytes;
         self.count = usize::from(count);
     }
 
     /// Puts a row whose key belongs to the leaf: the value at the key is this one from now on. Returns `false` if the leaf has no room for
     /// it; then nothing has changed.
     ///
-    /// Copies the leaf's bytes in memory.
+    /// Moves the rows after it, unless it replaces a row.
     pub fn put(&mut self, key: &[u8], value: &[u8]) -> bool
         requires key { length key.now ≡ self.old.form.key }
         requires value { length value.now ≡ self.old.form.value }
@@ -171,7 +173,7 @@ impl LeafDraft {
     /// Takes out the row at a key that belongs to the leaf, if there is one. Returns `false` if the leaf would have fewer rows then than it
     /// must have; then nothing has changed.
     ///
-    /// Copies the leaf's bytes in memory.
+    /// Moves the rows after it.
     pub fn remove(&mut self, key: &[u8]) -> bool
         requires key { length key.now ≡ self.old.form.key }
         ensures form { self.new.form ≡ self.old.form }

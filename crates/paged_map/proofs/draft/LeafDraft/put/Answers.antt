@@ -39,6 +39,11 @@ edit-requires-clause-fits c =
     let r = room-fits (d.form.key + d.form.value) d.count c.spot_of-spot.result.at c.spot_of-spot.result.gone c.spot_of-spot.ensures.within (c.if-not-has_room.ensures.0 (search rules)) in
     omega (arith, size, from, until, r)
 
+-- the bytes of all cells
+whole : (c : goal.After-edit) (count : ℕ) → IsLeafDraft count c.args.self.now
+    → c.cut_of-cut.result.size ≡ (c.args.self.now.form.key + c.args.self.now.form.value) * count_of c.args.self.now.bytes
+whole c count is = ap (λ (x : Cut). x.size) c.cut_of-cut.ensures.is ∙ ap (λ (n : ℕ). (c.args.self.now.form.key + c.args.self.now.form.value) * n) is.is
+
 -- the bytes are those of the leaf with the row
 made : (c : goal.After-edit) (count : ℕ) → IsLeafDraft count c.args.self.now → IsKeyOf c.args.self.now (number c.args.key.now)
     → IsEdited c.args.self.now.form c.args.self.now.least (low_of c.args.self.now.form c.args.self.now.bounds) (high_of c.args.self.now.form c.args.self.now.bounds) (put (number c.args.key.now) c.args.value.now) c.args.self.now.bytes c.edit.new.self.bytes
@@ -47,7 +52,7 @@ made c count is key =
     let p = c.spot_of-spot.ensures in
     let n : ℕ = d.count + 1 - c.spot_of-spot.result.gone in
     subst (λ (x : List ℕ). IsEdited d.form d.least (low_of d.form d.bounds) (high_of d.form d.bounds) (put (number c.args.key.now) c.args.value.now) d.bytes x)
-    (sym (c.edit.ensures.bytes ∙ ap (λ (x : Cut). image d.form.map 1 0 n (edited x.size x.from x.until c.args.key.now c.args.value.now d.bytes)) c.cut_of-cut.ensures.is))
+    (sym (c.edit.ensures.bytes is.leaf (whole c count is) ∙ ap (λ (x : Cut). image d.form.map 1 0 n (edited x.size x.from x.until c.args.key.now c.args.value.now d.bytes)) c.cut_of-cut.ensures.is))
     (put-leaf d.form d.bytes (low_of d.form d.bounds) (high_of d.form d.bounds) d.least d.count c.spot_of-spot.result.at is.leaf is.within is.is c.args.key.now c.args.value.now c.spot_of-spot.result.gone c.requires.key c.requires.value key.0 key.1
     p.place p.some p.none p.small p.within (c.if-not-has_room.ensures.0 (search rules)))
 
@@ -59,7 +64,7 @@ returns-clause-sound c = λ count is key.
     let room : 16 + (d.form.key + d.form.value) * n ≤ 4096 = c.if-not-has_room.ensures.0 (search rules) in
     let small = few (d.form.key + d.form.value) n (width-some d.form 0).0 (omega arith) in
     drafted-leaf count (put (number c.args.key.now) c.args.value.now) d c.edit.new.self e.form e.page e.least e.bounds
-    (e.count ∙ sym (ap count_of e.bytes ∙ made-count d.form.map n (edited c.cut_of-cut.result.size c.cut_of-cut.result.from c.cut_of-cut.result.until c.args.key.now c.args.value.now d.bytes) (omega (arith, small)))) (made c count is key) is
+    (e.count ∙ sym (ap count_of (e.bytes is.leaf (whole c count is)) ∙ made-count d.form.map n (edited c.cut_of-cut.result.size c.cut_of-cut.result.from c.cut_of-cut.result.until c.args.key.now c.args.value.now d.bytes) (omega (arith, small)))) (made c count is key) is
 
 pub returns-clause-put : goal.returns-clause-put
 returns-clause-put c = λ count pages root rows is key drafted yes.

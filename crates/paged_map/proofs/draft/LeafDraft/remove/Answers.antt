@@ -27,6 +27,11 @@ returns-then-spot-eq0-clause-removed c = λ count pages root rows is key drafted
     (λ small same. c.spot_of-spot.ensures.none (λ one. absurd (omega arith)) (omega (arith, is.is, small)) same) in
     subst (λ (r : List Row). IsDrafted d.form pages root d.least d.page (low_of d.form d.bounds) (high_of d.form d.bounds) d.bytes r) (sym (without-absent k rows none)) drafted
 
+-- the bytes of all cells
+whole : (c : goal.After-edit) (count : ℕ) → IsLeafDraft count c.args.self.now
+    → c.cut_of-cut.result.size ≡ (c.args.self.now.form.key + c.args.self.now.form.value) * count_of c.args.self.now.bytes
+whole c count is = ap (λ (x : Cut). x.size) c.cut_of-cut.ensures.is ∙ ap (λ (n : ℕ). (c.args.self.now.form.key + c.args.self.now.form.value) * n) is.is
+
 -- the bytes are those of the leaf without the row
 made : (c : goal.After-edit) (count : ℕ) → IsLeafDraft count c.args.self.now → IsKeyOf c.args.self.now (number c.args.key.now)
     → IsEdited c.args.self.now.form c.args.self.now.least (low_of c.args.self.now.form c.args.self.now.bounds) (high_of c.args.self.now.form c.args.self.now.bounds) (without (number c.args.key.now)) c.args.self.now.bytes c.edit.new.self.bytes
@@ -43,7 +48,7 @@ made c count is key =
     let left = subst (λ (k : ℕ). IsEdited d.form d.least (low_of d.form d.bounds) (high_of d.form d.bounds) (without (number c.args.key.now)) d.bytes (image d.form.map 1 0 (n - 1) (edited (w * n) (w * at) k [] [] d.bytes))) until
     (without-leaf d.form d.bytes (low_of d.form d.bounds) (high_of d.form d.bounds) d.least n at is.leaf is.within is.is (number c.args.key.now) key.0 key.1 p.place here.0 here.1 (omega arith) is.some) in
     subst (λ (x : List ℕ). IsEdited d.form d.least (low_of d.form d.bounds) (high_of d.form d.bounds) (without (number c.args.key.now)) d.bytes x)
-    (sym (c.edit.ensures.bytes ∙ ap (λ (x : Cut). image d.form.map 1 0 (n - 1) (edited x.size x.from x.until [] [] d.bytes)) c.cut_of-cut.ensures.is)) left
+    (sym (c.edit.ensures.bytes is.leaf (whole c count is) ∙ ap (λ (x : Cut). image d.form.map 1 0 (n - 1) (edited x.size x.from x.until [] [] d.bytes)) c.cut_of-cut.ensures.is)) left
 
 pub returns-clause-sound : goal.returns-clause-sound
 returns-clause-sound c = λ count is key.
@@ -52,7 +57,7 @@ returns-clause-sound c = λ count is key.
     let fits : 16 + (d.form.key + d.form.value) * d.count ≤ 4096 = d.fits in
     let small = few (d.form.key + d.form.value) d.count (width-some d.form 0).0 (omega arith) in
     drafted-leaf count (without (number c.args.key.now)) d c.edit.new.self e.form e.page e.least e.bounds
-    (e.count ∙ sym (ap count_of e.bytes ∙ made-count d.form.map (d.count - 1) (edited c.cut_of-cut.result.size c.cut_of-cut.result.from c.cut_of-cut.result.until [] [] d.bytes) (omega (arith, small)))) (made c count is key) is
+    (e.count ∙ sym (ap count_of (e.bytes is.leaf (whole c count is)) ∙ made-count d.form.map (d.count - 1) (edited c.cut_of-cut.result.size c.cut_of-cut.result.from c.cut_of-cut.result.until [] [] d.bytes) (omega (arith, small)))) (made c count is key) is
 
 pub returns-clause-removed : goal.returns-clause-removed
 returns-clause-removed c = λ count pages root rows is key drafted yes.
