@@ -1,9 +1,9 @@
 #!/usr/bin/env python3
-"""Group queries over a store on this disk, of places like a user's (places.py): for 2, 3, 5 and 8 words that many, some and few places hold, or of each
+"""Group queries, or gather queries, over a store on this disk, of places like a user's (places.py): for 2, 3, 5 and 8 words that many, some and few places hold, or of each
 kind in turn, how many are answered a second, and the slowest of them. A line is written and its reply read before the next, so a pipe's time is in each.
-With `one-point` all places lie at one point.
+With `one-point` all places lie at one point, and with `gather` the queries are those for the least sum.
 The program must be built (./irtree-build builds it).
-usage: bench/groups.py [PLACES] [QUERIES] [CACHE] [POLICY] [one-point]    (works in a folder of its own beside the repository)"""
+usage: bench/groups.py [PLACES] [QUERIES] [CACHE] [POLICY] [one-point] [gather]    (works in a folder of its own beside the repository)"""
 import os
 import random
 import subprocess
@@ -40,6 +40,7 @@ def main():
     asked = int(sys.argv[2]) if len(sys.argv) > 2 else 300
     cache = sys.argv[3] if len(sys.argv) > 3 else "65536"
     policy = sys.argv[4] if len(sys.argv) > 4 else "quadratic"
+    command = "gather" if "gather" in sys.argv else "group"
     rows = list(places(count))
     if "one-point" in sys.argv:
         rows = [(key, 10.0, 50.0, text) for key, _, _, text in rows]
@@ -63,7 +64,7 @@ def main():
                     _, x, y, _ = rng.choice(rows)
                     pool = [rng.choice(pools[("many", "some", "few")[i % 3]]) for i in range(size)] if name == "each" else rng.sample(pools[name], size)
                     if len(set(pool)) == size:
-                        lines.append(f"group {x:.7f} {y:.7f} words {' '.join(pool)}\n".encode())
+                        lines.append(f"{command} {x:.7f} {y:.7f} words {' '.join(pool)}\n".encode())
                 child = subprocess.Popen([PROGRAM, store, "run", f"--cache={cache}"], stdin=subprocess.PIPE, stdout=subprocess.PIPE)
                 latencies(child, lines)
                 taken = sorted(latencies(child, lines))

@@ -65,9 +65,11 @@ def query():
     if kind < 0.95:
         words = [w + (f"*{random.randint(1, 20)}" if random.random() < 0.3 else "") for w in some_words(common + rare, 1, 4)]
         numbers = f"{random.randint(1, 20)} {random.randint(0, 1000)} {random.uniform(0.1, 20):.2f}"
+        if random.random() < 0.2:
+            return f"top {point()} {numbers}{scale()} idf words {' '.join(some_words(common + rare, 1, 4))}"
         return f"top {point()} {numbers}{scale()} words {' '.join(words)}"
     if kind < 0.97:
-        return f"group {point()}{scale()} words {' '.join(some_words(rare, 1, 2))}"
+        return f"{random.choice(['group', 'gather'])} {point()}{scale()} words {' '.join(some_words(rare, 1, 2))}"
     return f"show p{random.randrange(places + 5)}" if kind < 0.99 else "count"
 
 
@@ -75,4 +77,4 @@ for i in range(places):
     print(f"add p{i} {point()} {text()}")
 for _ in range(queries):
     line = query()
-    print("explain " + line if random.random() < 0.1 and not line.startswith(("show", "count")) else line)
+    print("explain " + line if random.random() < 0.1 and not line.startswith(("show", "count")) and " idf " not in line else line)

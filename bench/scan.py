@@ -163,9 +163,14 @@ class Store:
     def top(self, tokens, explain):
         at, k, alpha, reach = (units(tokens[0]), units(tokens[1])), int(tokens[2]), int(tokens[3]), units(tokens[4])
         (scale, rest), weights = scale_of(tokens[5:]), {}
-        for token in rest[1:]:
-            word, _, weight = ("", "", "") if token.startswith('"') else token.rpartition("*")
-            weights[word_of(word or token)] = int(weight) if word else 1
+        if rest[0] == "idf":
+            for word in map(word_of, rest[2:]):
+                holders = sum(word in words for _, words, _ in self.places.values())
+                weights[word] = 1 + max(e for e in range(20) if holders << e <= len(self.places)) if holders else 1
+        else:
+            for token in rest[1:]:
+                word, _, weight = ("", "", "") if token.startswith('"') else token.rpartition("*")
+                weights[word_of(word or token)] = int(weight) if word else 1
         total = sum(weights.values())
         hits = []
         for key in self.by_key():
@@ -185,15 +190,23 @@ class Store:
             yield f"{rank} {key_text(key)} {cost}{more}"
 
     def group(self, tokens, explain):
+        def price(at, scale, choice):
+            points = [self.places[key][0] for key in choice]
+            return max(dist(at, point, scale) for point in points) + max(dist(p, q, scale) for p in points for q in points)
+        yield from self.chosen(tokens, explain, price)
+
+    def gather(self, tokens, explain):
+        def price(at, scale, choice):
+            return sum(dist(at, self.places[key][0], scale) for key in set(choice))
+        yield from self.chosen(tokens, explain, price)
+
+    def chosen(self, tokens, explain, price):
         at, (scale, rest) = (units(tokens[0]), units(tokens[1])), scale_of(tokens[2:])
         words = [word_of(token) for token in rest[1:]]
         columns = [[key for key in self.by_key() if word in self.places[key][1]] for word in words]
         best = None
         for choice in itertools.product(*columns):
-            points = [self.places[key][0] for key in choice]
-            far = max(dist(at, point, scale) for point in points)
-            wide = max(dist(p, q, scale) for p in points for q in points)
-            offer = (far + wide, [key_order(key) for key in choice], choice)
+            offer = (price(at, scale, choice), [key_order(key) for key in choice], choice)
             if best is None or offer < best:
                 best = offer
         if best is None:

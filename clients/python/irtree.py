@@ -160,7 +160,7 @@ class BadKey(Bad):
 
 
 class BadWord(Bad):
-    """A text that is not one word, has more than 32 bytes, or comes twice in `top` or `group`."""
+    """A text that is not one word, has more than 32 bytes, or comes twice in `top`, `group` or `gather`."""
 
 
 class BadExpression(Bad):
@@ -168,7 +168,7 @@ class BadExpression(Bad):
 
 
 class BadExtra(Bad):
-    """The line goes on after its end, as with more than eight words in `top` or `group`."""
+    """The line goes on after its end, as with more than eight words in `top`, `group` or `gather`."""
 
 
 REFUSALS: Mapping[str, Type[Refused]] = {
@@ -293,7 +293,7 @@ class Pick:
 
 @dataclass(frozen=True)
 class Group:
-    """The cheapest group: its cost in degrees, and a pick for each word in the order of the words."""
+    """The answer of `group` or `gather`: its cost in degrees, and a pick for each word in the order of the words."""
 
     cost: Decimal
     picks: Tuple[Pick, ...]
@@ -674,8 +674,23 @@ def _top(point: Tuple[Degrees, Degrees], k: int, alpha: int, reach: Degrees, wor
     return Question(_bytes(f"{_explained(explain)}top {_point(point)} {numbers} words {_top_words(words)}"), _read_top)
 
 
+def _top_by_rarity(point: Tuple[Degrees, Degrees], k: int, alpha: int, reach: Degrees, words: Iterable[str],
+                   scale: Optional[int]) -> Question[List[Hit]]:
+    numbers = f"{_whole(k, 'k')} {_whole(alpha, 'alpha')} {_degrees(reach, 'a reach')}{_scale(scale)}"
+    return Question(_bytes(f"top {_point(point)} {numbers} idf words {_group_words(words)}"), _read_top)
+
+
+def _chosen(command: str, point: Tuple[Degrees, Degrees], words: Iterable[str], scale: Optional[int],
+            explain: bool) -> Question[Optional[Group]]:
+    return Question(_bytes(f"{_explained(explain)}{command} {_point(point)}{_scale(scale)} words {_group_words(words)}"), _read_group)
+
+
 def _group(point: Tuple[Degrees, Degrees], words: Iterable[str], scale: Optional[int], explain: bool) -> Question[Optional[Group]]:
-    return Question(_bytes(f"{_explained(explain)}group {_point(point)}{_scale(scale)} words {_group_words(words)}"), _read_group)
+    return _chosen("group", point, words, scale, explain)
+
+
+def _gather(point: Tuple[Degrees, Degrees], words: Iterable[str], scale: Optional[int], explain: bool) -> Question[Optional[Group]]:
+    return _chosen("gather", point, words, scale, explain)
 
 
 class Reply(Generic[T]):
@@ -863,6 +878,14 @@ class Store:
         """
         return self._now(_top(point, k, alpha, reach, words, scale, explain))
 
+    def top_by_rarity(self, point: Tuple[Degrees, Degrees], k: int, alpha: int, reach: Degrees, words: Iterable[str], *,
+                      scale: Optional[int] = None) -> List[Hit]:
+        """Returns the same with weights by rarity: a word that few live places have counts more than one that many have.
+
+        `words` are 1 to 8 words without weights. The program gives each a weight of 1 to 20 by how many places have it at the time.
+        """
+        return self._now(_top_by_rarity(point, k, alpha, reach, words, scale))
+
     def group(self, point: Tuple[Degrees, Degrees], words: Iterable[str], *, scale: Optional[int] = None,
               explain: bool = False) -> Optional[Group]:
         """Returns the cheapest places that have all the words between them, or None if no place has one of the words.
@@ -870,6 +893,14 @@ class Store:
         `scale` is how much longitudes count, in thousandths, also between two places of the group.
         """
         return self._now(_group(point, words, scale, explain))
+
+    def gather(self, point: Tuple[Degrees, Degrees], words: Iterable[str], *, scale: Optional[int] = None,
+               explain: bool = False) -> Optional[Group]:
+        """Returns the places that have all the words between them with the least sum of distances, or None if no place has one of the words.
+
+        A place that has several of the words counts once. `scale` is how much longitudes count, in thousandths.
+        """
+        return self._now(_gather(point, words, scale, explain))
 
     def pipeline(self) -> Pipeline:
         """Returns a pipeline, for many lines without waiting for each reply."""
@@ -1118,10 +1149,20 @@ class Pipeline:
         """As `Store.top`."""
         return self._later(_top(point, k, alpha, reach, words, scale, explain))
 
+    def top_by_rarity(self, point: Tuple[Degrees, Degrees], k: int, alpha: int, reach: Degrees, words: Iterable[str], *,
+                      scale: Optional[int] = None) -> Reply[List[Hit]]:
+        """As `Store.top_by_rarity`."""
+        return self._later(_top_by_rarity(point, k, alpha, reach, words, scale))
+
     def group(self, point: Tuple[Degrees, Degrees], words: Iterable[str], *, scale: Optional[int] = None,
               explain: bool = False) -> Reply[Optional[Group]]:
         """As `Store.group`."""
         return self._later(_group(point, words, scale, explain))
+
+    def gather(self, point: Tuple[Degrees, Degrees], words: Iterable[str], *, scale: Optional[int] = None,
+               explain: bool = False) -> Reply[Optional[Group]]:
+        """As `Store.gather`."""
+        return self._later(_gather(point, words, scale, explain))
 
 
 def load(store: PathName, source: Union[PathName, bytes], *, batch: Optional[int] = None, text: Optional[str] = None,

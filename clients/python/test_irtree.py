@@ -189,6 +189,24 @@ class QueriesTest(Case):
         self.assertIsNone(store.group(ORIGIN, ["a", "pub"]))
         self.assertEqual(store.group(ORIGIN, ["a"], explain=True), Group(D(1), (Pick(1, "a", "a1", D(1), point(1, 0)),)))
 
+    def test_gather_pays_for_a_place_once(self):
+        store = self.store()
+        for key, lon, lat, text in [("m", 0, 2, "a b c"), ("a1", 1, 0, "a"), ("b1", 0, 1, "b"), ("c1", -1, 0, "c")]:
+            store.add(key, (D(lon), D(lat)), text)
+        picks = tuple(Pick(rank, word, "m", D(2)) for rank, word in enumerate("abc", 1))
+        self.assertEqual(store.gather(ORIGIN, ["a", "b", "c"]), Group(D(2), picks))
+        self.assertEqual(store.gather(ORIGIN, ["b"], explain=True), Group(D(1), (Pick(1, "b", "b1", D(1), point(0, 1)),)))
+        self.assertEqual(store.gather(ORIGIN, ["a"], scale=500).cost, D("0.5"))
+        self.assertIsNone(store.gather(ORIGIN, ["a", "pub"]))
+
+    def test_rare_words_count_more(self):
+        store = self.store()
+        store.add("p", (D(0), D("0.5")), "cafe")
+        store.add("q", ORIGIN, "cafe bar")
+        hits = [Hit(1, "q", cost=1905000000000), Hit(2, "p", cost=4462500000000)]
+        self.assertEqual(store.top_by_rarity(ORIGIN, 2, 500, D(1), ["cafe", "bar"]), hits)
+        self.assertEqual(store.top_by_rarity(ORIGIN, 2, 500, D(1), ["pub"]), [])
+
     def test_longitudes_meet_at_180_degrees(self):
         store = self.store()
         store.add("e", (D("179.9"), 0), "a")
@@ -292,6 +310,8 @@ class RefusalsTest(Case):
             (irtree.BadRange, lambda: store.nearest(ORIGIN, 1, scale=1001)),
             (irtree.BadRange, lambda: store.top(ORIGIN, 1, 500, 1, ["a"], scale=1001)),
             (irtree.BadRange, lambda: store.group(ORIGIN, ["a"], scale=1001)),
+            (irtree.BadRange, lambda: store.gather(ORIGIN, ["a"], scale=1001)),
+            (irtree.BadRange, lambda: store.top_by_rarity(ORIGIN, 1, 500, 0, ["a"])),
             (irtree.BadRange, lambda: store.top(ORIGIN, 1, 1001, 1, ["a"])),
             (irtree.BadRange, lambda: store.top(ORIGIN, 1, 500, 0, ["a"])),
             (irtree.BadRange, lambda: store.top(ORIGIN, 1, 500, D("402.4922360"), ["a"])),
@@ -303,6 +323,8 @@ class RefusalsTest(Case):
             (irtree.BadKey, lambda: store.show(Auto(-1))),
             (irtree.BadWord, lambda: store.group(ORIGIN, ["a", "A"])),
             (irtree.BadWord, lambda: store.group(ORIGIN, ["a b"])),
+            (irtree.BadWord, lambda: store.gather(ORIGIN, ["a", "a"])),
+            (irtree.BadWord, lambda: store.top_by_rarity(ORIGIN, 1, 500, 1, ["a", "a"])),
             (irtree.BadWord, lambda: store.top(ORIGIN, 1, 500, 1, ["a", ("a", 2)])),
             (irtree.BadWord, lambda: store.nearest(ORIGIN, 1, where=Word(""))),
             (irtree.BadWord, lambda: store.nearest(ORIGIN, 1, where=Word("x" * 33))),
@@ -778,7 +800,7 @@ class PipelineTest(Case):
         self.assertEqual(store.count(), 1)
 
     def test_its_calls_take_what_those_of_a_store_take(self):
-        for name in ("add", "remove", "show", "count", "range", "box", "nearest", "top", "group"):
+        for name in ("add", "remove", "show", "count", "range", "box", "nearest", "top", "top_by_rarity", "group", "gather"):
             of_store, of_pipeline = (inspect.signature(getattr(kind, name)) for kind in (Store, irtree.Pipeline))
             self.assertEqual(str(of_store.parameters), str(of_pipeline.parameters))
             self.assertEqual(f"Reply[{of_store.return_annotation}]", of_pipeline.return_annotation)
@@ -893,18 +915,34 @@ class Scan:
             hits.append(Hit(rank, key, *more))
         return hits
 
-    def group(self, at, words, scale, explain):
+    def by_rarity(self, at, k, alpha, reach, words, scale):
+        weights = {}
+        for word in words:
+            live, holders = len(self.places), len(self.holders.get(word, []))
+            weights[word] = 1 + max(e for e in range(20) if holders << e <= live) if holders else 1
+        return self.top(at, k, alpha, reach, weights, scale, False)
+
+    def chosen(self, at, words, scale, explain, price):
         best = None
         for choice in itertools.product(*[self.holders.get(word, []) for word in words]):
-            between = [self.distance(one, other, scale) for one, other in itertools.combinations(choice, 2)]
-            cost = max(self.distance(at, place, scale) for place in choice) + max(between, default=0)
-            offer = cost, [place[3].encode() for place in choice], choice
+            offer = price(choice), [place[3].encode() for place in choice], choice
             best = offer if best is None or offer < best else best
         if best is None:
             return None
         picks = [Pick(rank, word, place[3], units(self.distance(at, place, scale)), self.point(place[3]) if explain else None)
                  for rank, (word, place) in enumerate(zip(words, best[2]), 1)]
         return Group(units(best[0]), tuple(picks))
+
+    def group(self, at, words, scale, explain):
+        def price(choice):
+            between = [self.distance(one, other, scale) for one, other in itertools.combinations(choice, 2)]
+            return max(self.distance(at, place, scale) for place in choice) + max(between, default=0)
+        return self.chosen(at, words, scale, explain, price)
+
+    def gather(self, at, words, scale, explain):
+        def price(choice):
+            return sum(self.distance(at, place, scale) for place in {place[3]: place for place in choice}.values())
+        return self.chosen(at, words, scale, explain, price)
 
 
 class ScanTest(Case):
@@ -953,7 +991,7 @@ class ScanTest(Case):
         at, explain, (where, filter) = self.point(rng), rng.random() < 0.5, self.filter(rng)
         scale = rng.choice([None, 0, 1, 500, 564, 999, 1000])
         counts = 1000 if scale is None else scale
-        kind = rng.choice(["range", "box", "nearest", "top", "group"])
+        kind = rng.choice(["range", "box", "nearest", "top", "idf", "group", "gather"])
         if kind == "range":
             radius = rng.choice([0, 10**7, 10**8])
             return p.range(at, radius, scale=scale, where=where, explain=explain), lambda: scan.range(at, radius, counts, filter, explain)
@@ -969,7 +1007,13 @@ class ScanTest(Case):
             k, alpha, reach = rng.choice([1, 10, 50]), rng.choice([0, 300, 1000]), rng.choice([1, 10**7, 4_024_922_359])
             reply = p.top(at, k, alpha, reach, weights, scale=scale, explain=explain)
             return reply, lambda: scan.top(at, k, alpha, reach, weights, counts, explain)
+        if kind == "idf":
+            words = list(dict.fromkeys(rng.sample(self.COMMON, rng.randint(0, 2)) + self.words(rng)[-1:]))
+            k, alpha, reach = rng.choice([1, 10, 50]), rng.choice([0, 300, 1000]), rng.choice([1, 10**7, 4_024_922_359])
+            return p.top_by_rarity(at, k, alpha, reach, words, scale=scale), lambda: scan.by_rarity(at, k, alpha, reach, words, counts)
         words = list(dict.fromkeys(self.words(rng)[-1] for _ in range(rng.randint(1, 3))))
+        if kind == "gather":
+            return p.gather(at, words, scale=scale, explain=explain), lambda: scan.gather(at, words, counts, explain)
         return p.group(at, words, scale=scale, explain=explain), lambda: scan.group(at, words, counts, explain)
 
     def test_queries_give_what_the_scan_gives(self):

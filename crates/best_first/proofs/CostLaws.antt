@@ -1,5 +1,5 @@
 -- How many hits cost less than a bound.
-use Rattle.std.proofs.Common.{◌≡◌, ℕ, suc, ◌+◌, ◌-◌, ◌<◌, ◌≤◌, List, [], ◌∷◌, ◌++◌, length, get_or, refl, arith, false, true, ⊎_elim, nat_lt, if◌then◌else◌, Bool, ◌==◌, Some, None, ap}
+use Rattle.std.proofs.Common.{◌≡◌, ℕ, suc, ◌+◌, ◌-◌, ◌<◌, ◌≤◌, List, [], ◌∷◌, ◌++◌, length, get_or, refl, arith, false, true, ⊎_elim, nat_lt, if◌then◌else◌, Bool, ◌==◌, Option, Some, ap, ◌⊎◌, inl, inr}
 use Rattle.std.specs.Prelude.{IfSome}
 use Rattle.std.specs.List.{AllByRecursion}
 use Rattle.std.specs.Cmp.{nat_cmp_is}
@@ -121,24 +121,28 @@ cheaper_front bound (h ∷ g ∷ hs) l c = omega (arith, sum_by-cons (is_cheaper
 pub unsettled_last : (bound k : ℕ) (hs : List Hit) (d : Hit) → length hs ≤ k → 0 < length hs → bound ≤ (get_or hs (length hs - 1) d).cost → cheaper bound hs < k
 unsettled_last bound k hs d l s c = let e = last_is hs d s in let f = cheaper_front bound hs s (omega (arith, e)) in omega arith
 
--- while fewer than k are found, and where none is asked for, there is no most
-pub most-few : (k : ℕ) (hs : List Hit) → length hs < k → None ≡ most_of k hs
-most-few k hs l = rw (lt-ltb (length hs) k l) refl
+-- while fewer than k are found, and where none is asked for, the limit is the most
+pub most-few : (limit : Option ℕ) (k : ℕ) (hs : List Hit) → length hs < k → limit ≡ most_of limit k hs
+most-few limit k hs l = rw (lt-ltb (length hs) k l) refl
 
-pub most-zero : (k : ℕ) (hs : List Hit) → k ≡ 0 → None ≡ most_of k hs
-most-zero k hs z = rw (z, le-ltb (length hs) 0 (omega arith)) refl
+pub most-zero : (limit : Option ℕ) (k : ℕ) (hs : List Hit) → k ≡ 0 → limit ≡ most_of limit k hs
+most-zero limit k hs z = rw (z, le-ltb (length hs) 0 (omega arith)) refl
 
 -- else it is what the last one costs
-pub most-is : (k : ℕ) (hs : List Hit) (d : Hit) → k ≤ length hs → 0 < k → Some (get_or hs (length hs - 1) d).cost ≡ most_of k hs
-most-is k hs d l s =
+pub most-is : (limit : Option ℕ) (k : ℕ) (hs : List Hit) (d : Hit) → k ≤ length hs → 0 < k → Some (get_or hs (length hs - 1) d).cost ≡ most_of limit k hs
+most-is limit k hs d l s =
     let some : (k == 0) ≡ false = ne_eqb k 0 (λ z. absurd (omega arith)) in
     rw (le-ltb (length hs) k l, some) (ap Some (last_is hs d (omega arith)))
 
+-- the most is the limit, or what the kth of those found costs
+abbrev pub IsMost : Option ℕ → ℕ → List Hit → Option ℕ → Type 0
+IsMost limit k found most = (most ≡ limit) ⊎ IfSome most (λ m. (length found ≡ k) × AllByRecursion (λ (h : Hit). h.cost ≤ m) found)
+
 -- what the kth of k hits in order costs is the most that any does
-pub most_last : (k : ℕ) (hs : List Hit) → IsRanked comes_before hs → length hs ≤ k → IfSome (most_of k hs) (λ m. (length hs ≡ k) × AllByRecursion (λ (h : Hit). h.cost ≤ m) hs)
-most_last k hs r short = by-tests (nat_lt (length hs) k) (k == 0) refl
+pub most_last : (limit : Option ℕ) (k : ℕ) (hs : List Hit) → IsRanked comes_before hs → length hs ≤ k → IsMost limit k hs (most_of limit k hs)
+most_last limit k hs r short = by-tests (nat_lt (length hs) k) (k == 0) refl
   where
-    by-tests : (a b : Bool) → nat_lt (length hs) k ≡ a → IfSome (if a then None else if b then None else Some (last_cost hs)) (λ m. (length hs ≡ k) × AllByRecursion (λ (h : Hit). h.cost ≤ m) hs)
-    by-tests true b e = tt
-    by-tests false true e = tt
-    by-tests false false e = let l = ltb-false (length hs) k e in (omega arith, all_last hs r)
+    by-tests : (a b : Bool) → nat_lt (length hs) k ≡ a → IsMost limit k hs (if a then limit else if b then limit else Some (last_cost hs))
+    by-tests true b e = inl refl
+    by-tests false true e = inl refl
+    by-tests false false e = let l = ltb-false (length hs) k e in inr (omega arith, all_last hs r)

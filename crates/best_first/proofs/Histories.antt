@@ -1,5 +1,5 @@
 -- What a search has opened so far, step by step.
-use Rattle.std.proofs.Common.{◌≡◌, ℕ, zero, suc, ◌<◌, ◌≤◌, List, [], ◌∷◌, ◌++◌, refl, sym, ap, subst, ◌∙◌, arith, ⊎_elim, IsPermutation}
+use Rattle.std.proofs.Common.{◌≡◌, ℕ, zero, suc, ◌<◌, ◌≤◌, List, [], ◌∷◌, ◌++◌, refl, sym, ap, subst, ◌∙◌, arith, Option, ⊎_elim, IsPermutation}
 use Rattle.std.specs.List.{AllByRecursion, Contains}
 use Rattle.std.proofs.lemmas.List.{append-nil}
 use Rattle.std.proofs.lemmas.List.Elements.{Contains-append_left, Contains-append_right, Contains-append_cases}
@@ -13,10 +13,12 @@ use Rattle.best_first.specs.declared.item.Item.TheVariants.{Node, Place}
 use Rattle.best_first.specs.Items.{nodes_of, places_of, pages_of, IsGivenAt, IsRootAlone}
 use Rattle.best_first.specs.Leads.{below, reached, leads, IsAhead, Bounds, IsBound, BoundsBelow}
 use Rattle.best_first.specs.Queue.{IsNext}
+use Rattle.best_first.specs.Cuts.{affordable}
 use Rattle.best_first.specs.Openings.{AsksNodes, Opening, pages_opened, given_by, IsFromLeaf, Told, last_cost, cheaper, Opened}
 use Rattle.best_first.specs.Lists.{all_weaker, all_append, all_parts, all_flat, all_moved, all_in}
 use Rattle.best_first.proofs.CostLaws.{cheaper_kept, last_above}
 use Rattle.best_first.proofs.Firsts.{all_first}
+use Rattle.best_first.proofs.Limits.{all-affordable}
 use Rattle.best_first.proofs.Steps.{Searching, below_leads, all_nodes, all_places, items_ahead}
 use Rattle.best_first.specs.Logs.{asked_sooner, asked_before, asks_wider, asks_then}
 
@@ -48,10 +50,10 @@ module _ (stands : List ℕ → ℕ → Item → Type 0) (pages : PageMap) (is_n
     pub ahead : fits → AllByRecursion (λ (o : Opening). AllByRecursion (IsAhead opens o.bound) queue) told.openings
     pub fewer : fits → AllByRecursion (λ (o : Opening). cheaper o.bound found < k) told.openings
 
-  pub begun : (items empty queue : List Item) (none found : List Hit) (old new : List ℕ) (k : ℕ) → empty ≡ [] → none ≡ [] → IsPermutation (nodes_of items ++ empty) queue → found ≡ first comes_before k (none ++ places_of items) → IsRootAlone root items → (fits → items ≡ starts) → AsksNodes is_node (root ∷ []) old new → (fits → AsksNodes is_node (pages_of items) old new) → Underway old new k found queue
-  begun items empty queue none found old new k e n p f r b a g =
+  pub begun : (items empty queue : List Item) (none found : List Hit) (old new : List ℕ) (limit : Option ℕ) (k : ℕ) → empty ≡ [] → none ≡ [] → IsPermutation (nodes_of items ++ empty) queue → found ≡ first comes_before k (none ++ affordable limit (places_of items)) → IsRootAlone root items → (fits → items ≡ starts) → AsksNodes is_node (root ∷ []) old new → (fits → AsksNodes is_node (pages_of items) old new) → Underway old new k found queue
+  begun items empty queue none found old new limit k e n p f r b a g =
       let q : IsPermutation (nodes_of items) queue = subst (λ x. IsPermutation x queue) (ap (λ x. nodes_of items ++ x) e ∙ append-nil (nodes_of items)) p in
-      let h : found ≡ first comes_before k [] = f ∙ ap (λ x. first comes_before k (x ++ places_of items)) n ∙ ap (first comes_before k) (root_places root items r) in
+      let h : found ≡ first comes_before k [] = f ∙ ap (λ x. first comes_before k (x ++ affordable limit (places_of items))) n ∙ ap (λ x. first comes_before k (affordable limit x)) (root_places root items r) in
       record {
         told = record {
           start = items;
@@ -72,9 +74,9 @@ module _ (stands : List ℕ → ℕ → Item → Type 0) (pages : PageMap) (is_n
         fewer = λ _. tt;
       }
 
-  module _ (old mid new : List ℕ) (k page level bound : ℕ) (all items out queue rest next : List Item) (now found : List Hit) (total : List Hit) where
+  module _ (old mid new : List ℕ) (limit : Option ℕ) (k page level bound : ℕ) (all items out queue rest next : List Item) (now found : List Hit) (total : List Hit) where
     -- a node is opened
-    pub opened : cheaper bound now < k → IsNext (Node page level bound) rest queue → IsPermutation (nodes_of items ++ rest) next → found ≡ first comes_before k (now ++ places_of items) → AsksNodes is_node (page ∷ []) mid new → AskedSince mid new page → AllByRecursion (stands (pages page) level) all → AllByRecursion (IsGivenAt level) all → (fits → all ≡ opens page level) → IsPermutation all (items ++ out) → (fits → Searching opens total k now queue) → Underway old mid k now queue → Underway old new k found next
+    pub opened : cheaper bound now < k → IsNext (Node page level bound) rest queue → IsPermutation (nodes_of items ++ rest) next → found ≡ first comes_before k (now ++ affordable limit (places_of items)) → AsksNodes is_node (page ∷ []) mid new → AskedSince mid new page → AllByRecursion (stands (pages page) level) all → AllByRecursion (IsGivenAt level) all → (fits → all ≡ opens page level) → IsPermutation all (items ++ out) → (fits → Searching opens total limit k now queue) → Underway old mid k now queue → Underway old new k found next
     opened few n p f a since st g o parts se u =
         let t = u.told in
         let node = Node page level bound in
@@ -90,7 +92,7 @@ module _ (stands : List ℕ → ℕ → Item → Type 0) (pages : PageMap) (is_n
         -- none of the items leads to a place that costs less than a bound that the node is ahead of
         let items_above : fits → (b : ℕ) → AllByRecursion (λ (h : Hit). b ≤ h.cost) (below opens level page) → AllByRecursion (IsAhead opens b) items = λ w b h. part (IsAhead opens b) (all_flat (λ (h : Hit). b ≤ h.cost) (reached opens) all (subst (AllByRecursion (λ (h : Hit). b ≤ h.cost)) (under w) h)) in
         let next_above : (b : ℕ) → AllByRecursion (IsAhead opens b) items → AllByRecursion (IsAhead opens b) rest → AllByRecursion (IsAhead opens b) next = λ b h r. all_moved (IsAhead opens b) (nodes_of items ++ rest) next p (all_append (IsAhead opens b) (nodes_of items) rest (all_nodes opens (IsAhead opens b) items h) r) in
-        let still : (b : ℕ) → cheaper b now < k → AllByRecursion (IsAhead opens b) items → cheaper b found < k = λ b c h. let z = cheaper_kept b k now (places_of items) (all_places opens (λ (h : Hit). b ≤ h.cost) items h) in let y : cheaper b found ≡ cheaper b (first comes_before k (now ++ places_of items)) = ap (cheaper b) f in omega arith in
+        let still : (b : ℕ) → cheaper b now < k → AllByRecursion (IsAhead opens b) items → cheaper b found < k = λ b c h. let z = cheaper_kept b k now (affordable limit (places_of items)) (all-affordable (λ (h : Hit). b ≤ h.cost) limit (places_of items) (all_places opens (λ (h : Hit). b ≤ h.cost) items h)) in let y : cheaper b found ≡ cheaper b (first comes_before k (now ++ affordable limit (places_of items))) = ap (cheaper b) f in omega arith in
         record {
           told = record {
             start = t.start;
@@ -104,9 +106,9 @@ module _ (stands : List ℕ → ℕ → Item → Type 0) (pages : PageMap) (is_n
             read = (asked_sooner old t.log.more new page (subst (λ x. AskedSince x new page) t.log.log since), all_weaker (λ (o : Opening). AskedSince old mid o.page) (λ (o : Opening). AskedSince old new o.page) (λ o h. asked_before old mid a.more new o.page h a.log) t.openings t.read);
             log = more_logged (root ∷ []) ps t.log a;
             log_given = λ w. more_logged (pages_of t.start) ps (t.log_given w) a;
-            from_leaf = rw f (all_first (IsFromLeaf some) k (now ++ places_of items) (all_append (IsFromLeaf some) now (places_of items)
+            from_leaf = rw f (all_first (IsFromLeaf some) k (now ++ affordable limit (places_of items)) (all_append (IsFromLeaf some) now (affordable limit (places_of items))
                 (all_weaker (IsFromLeaf t.openings) (IsFromLeaf some) (λ h l. record { leaf = l.leaf; among = Contains-append_right (one ∷ []) t.openings l.leaf l.among; level = l.level; gave = l.gave }) now t.from_leaf)
-                (all_weaker (λ (h : Hit). (level ≡ 0) × Contains all (Place h)) (IsFromLeaf some) (λ h l. record { leaf = one; among = contains_head one t.openings; level = l.0; gave = l.1 }) (places_of items) (places_from all level items (part (IsGivenAt level) g) (part (Contains all) (all_in all))))));
+                (all-affordable (IsFromLeaf some) limit (places_of items) (all_weaker (λ (h : Hit). (level ≡ 0) × Contains all (Place h)) (IsFromLeaf some) (λ h l. record { leaf = one; among = contains_head one t.openings; level = l.0; gave = l.1 }) (places_of items) (places_from all level items (part (IsGivenAt level) g) (part (Contains all) (all_in all)))))));
           };
           queued = all_moved (Contains (all ++ before)) (nodes_of items ++ rest) next p (all_append (Contains (all ++ before)) (nodes_of items) rest
               (all_nodes opens (Contains (all ++ before)) items (all_weaker (Contains all) (Contains (all ++ before)) (λ i h. Contains-append_left all before i h) items (part (Contains all) (all_in all))))

@@ -8,6 +8,7 @@ pub mod Steps
 pub mod Histories
 pub mod Insides
 pub mod Levels
+pub mod Limits
 pub mod Sides
 pub mod Spreads
 pub mod Asking

@@ -1,5 +1,5 @@
 -- Items that are sorted in one by one.
-use Rattle.std.proofs.Common.{◌≡◌, ℕ, ◌+◌, ◌<◌, ◌≤◌, List, [], ◌∷◌, ◌++◌, length, take, get_or, sym, ap, ◌∙◌, append_assoc, IsPermutation}
+use Rattle.std.proofs.Common.{◌≡◌, ℕ, ◌+◌, ◌<◌, ◌≤◌, List, [], ◌∷◌, ◌++◌, length, take, get_or, Option, sym, ap, ◌∙◌, append_assoc, IsPermutation}
 use Rattle.std.specs.Prelude.{Result, Ok, Err, OnOk}
 use Rattle.std.specs.List.{flat_map}
 use Rattle.std.proofs.lemmas.Grind.{flat_map-append}
@@ -11,7 +11,9 @@ use Rattle.place_values.specs.Hit.{comes_before}
 use Rattle.best_first.specs.declared.item.Item.{Item}
 use Rattle.best_first.specs.declared.item.Item.TheVariants.{Node, Place}
 use Rattle.best_first.specs.Items.{node_alone, place_alone, nodes_of, places_of}
+use Rattle.best_first.specs.Cuts.{affordable}
 use Rattle.best_first.proofs.Firsts.{first_own, first_absorbed}
+use Rattle.best_first.proofs.Limits.{affordable-parts}
 
 -- what holds at any rate holds where the answer is Ok
 pub ok_always : {A B : Type 0} (r : Result A B) (P : Type 0) → P → OnOk r P
@@ -32,13 +34,17 @@ pub found_begun : (k : ℕ) (found : List Hit) → IsRanked comes_before found �
 found_begun k found r l = sym (ap (first comes_before k) (append-nil found) ∙ first_own k found r l)
 
 -- one more item among the best k
-pub found_more : (k : ℕ) (items : List Item) (i : ℕ) (d item : Item) (old now new : List Hit) → i < length items → item ≡ get_or items i d → now ≡ first comes_before k (old ++ places_of (take i items)) → new ≡ first comes_before k (now ++ place_alone item) → new ≡ first comes_before k (old ++ places_of (take (i + 1) items))
-found_more k items i d item old now new l e p q =
+pub found_more : (k : ℕ) (limit : Option ℕ) (items : List Item) (i : ℕ) (d item : Item) (old now new : List Hit) → i < length items → item ≡ get_or items i d → now ≡ first comes_before k (old ++ affordable limit (places_of (take i items))) → new ≡ first comes_before k (now ++ affordable limit (place_alone item))
+    → new ≡ first comes_before k (old ++ affordable limit (places_of (take (i + 1) items)))
+found_more k limit items i d item old now new l e p q =
     let ps = places_of (take i items) in
+    let one = affordable limit (place_alone item) in
+    let more : affordable limit (places_of (take (i + 1) items)) ≡ affordable limit ps ++ one =
+    ap (affordable limit) (flat_more place_alone items i d l ∙ ap (λ x. ps ++ place_alone x) (sym e)) ∙ affordable-parts limit ps (place_alone item) in
     q
-    ∙ ap (λ x. first comes_before k (x ++ place_alone item)) p
-    ∙ first_absorbed k (old ++ ps) (place_alone item)
-    ∙ ap (first comes_before k) (append_assoc old ps (place_alone item) ∙ ap (λ x. old ++ x) (ap (λ x. ps ++ place_alone x) e ∙ sym (flat_more place_alone items i d l)))
+    ∙ ap (λ x. first comes_before k (x ++ one)) p
+    ∙ first_absorbed k (old ++ affordable limit ps) one
+    ∙ ap (first comes_before k) (append_assoc old (affordable limit ps) one ∙ ap (λ x. old ++ x) (sym more))
 
 moved_one : (ns old now new : List Item) (item : Item) → IsPermutation (ns ++ old) now → IsPermutation (node_alone item ++ now) new → IsPermutation ((ns ++ node_alone item) ++ old) new
 moved_one ns old now new (Node page level bound) p q =

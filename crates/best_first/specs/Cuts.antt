@@ -1,14 +1,23 @@
 -- What a search still asks for, and what an opener may leave out.
-use Rattle.std.specs.Prelude.{◌≡◌, ℕ, Bool, true, false, ◌==◌, nat_lt, if◌then◌else◌, List, [], ◌∷◌, ◌++◌, length, Option, Some, None, IsPermutation}
-use Rattle.std.specs.List.{AllByRecursion, flat_map}
+use Rattle.std.specs.Prelude.{◌≡◌, ℕ, Bool, true, false, ◌==◌, nat_lt, nat_le, if◌then◌else◌, List, [], ◌∷◌, ◌++◌, length, Option, Some, None, IsPermutation}
+use Rattle.std.specs.List.{AllByRecursion, flat_map, filter}
 use Rattle.place_values.specs.declared.hit.Hit.{Hit}
 use Rattle.best_first.specs.declared.item.Item.{Item}
 use Rattle.best_first.specs.Items.{bound_of, IsGivenAt}
 use Rattle.best_first.specs.Openings.{last_cost}
 
--- what the kth of those found costs; nothing while fewer than k are found
-abbrev pub most_of : ℕ → List Hit → Option ℕ
-most_of k found = if nat_lt (length found) k then None else if k == 0 then None else Some (last_cost found)
+-- a hit costs no more than the limit; without one, each does
+abbrev pub is_affordable : Option ℕ → Hit → Bool
+is_affordable None hit = true
+is_affordable (Some limit) hit = nat_le hit.cost limit
+
+-- the hits that cost no more than the limit
+abbrev pub affordable : Option ℕ → List Hit → List Hit
+affordable limit hits = filter (is_affordable limit) hits
+
+-- what the kth of those found costs; the limit while fewer than k are found
+abbrev pub most_of : Option ℕ → ℕ → List Hit → Option ℕ
+most_of limit k found = if nat_lt (length found) k then limit else if k == 0 then limit else Some (last_cost found)
 
 -- a cost is above the most that is asked for; without one, none is
 abbrev pub is_over : Option ℕ → ℕ → Bool

@@ -7,7 +7,7 @@ ghost use Rattle.rtree_nodes.specs.Breaks.{BreaksNode};
 ghost use Rattle.rtree_nodes.specs.Pages.{level_in, is_form, stored_in};
 ghost use Rattle.rtree_nodes.specs.Reach.{item_of, is_place};
 ghost use Rattle.best_first.specs.Items.{IsGivenAt, bound_of as bound_in};
-ghost use Rattle.best_first.specs.Cuts.{is_over as is_above, kept_one, kept_of};
+ghost use Rattle.best_first.specs.Cuts.{kept_one, kept_of};
 ghost use Rattle.node_filter.specs.Masks.{has_slot};
 ghost use Rattle.spatial_base.specs.Key.{form_of};
 ghost use Rattle.spatial_base.specs.Point.{IsOnMap, distance};
@@ -15,6 +15,7 @@ ghost use Rattle.rtree_nodes.specs.Reach.{place_item, child_item};
 ghost use Rattle.best_first.specs.Asks.{cost_by, hit_with, bound_with};
 ghost use Rattle.best_first.specs.NodeOpenings.{marked_by, given_at, spread, IsIn, listed_item};
 
+use crate::best::is_over;
 use crate::{Ask, Item};
 use btree_nodes::damaged;
 use node_filter::Marks;
@@ -103,16 +104,6 @@ fn child_in(page: &Page, at: usize, level: u8, ask: &Ask, from: &Origin, text: u
             })
         }
         None => None,
-    }
-}
-
-// Whether a cost is above the most that is asked for.
-fn is_over(cost: u64, most: Option<u64>) -> bool
-    ensures { result ≡ is_above most cost }
-{
-    match most {
-        Some(most) => cost > most,
-        None => false,
     }
 }
 

@@ -32,5 +32,5 @@ pub use ask::Ask;
 pub use item::Item;
 pub use opener::Ranking;
 pub use ranked::Ranked;
-pub use search::first_k;
+pub use search::{first_k, first_k_within};
 pub use terms::Terms;

@@ -18,3 +18,4 @@ pub mod Searches
 pub mod OpenedWalks
 pub mod Behinds
 pub mod Words
+pub mod Limited

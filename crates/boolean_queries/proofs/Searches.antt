@@ -144,15 +144,52 @@ module _ (pages : PageMap) (count begin : ℕ) (tree : Tree) (ids : Numbers) (at
       by_root zero well = tt
       by_root (suc m) well = places-are nodes (leaf-places pages tree.rows) (level_at nodes (suc m)) (root_least (level_at nodes (suc m))) (suc m) well
 
+  -- one of the places below a node that is reached may be an answer
+  called-may : (openings : List Opening) (page level bound : ℕ) → Reached openings page level bound → qualifies ask 1 (impact_of ids (bounding_item_at nodes page)) ≡ true
+  called-may openings page level bound r = ⊎_elim
+      (λ (e : (page ≡ tree.root) × MayStart). subst (λ (p : ℕ). qualifies ask 1 (impact_of ids (bounding_item_at nodes p)) ≡ true) (sym e.0) e.1.1)
+      (λ f. (let-reach ids at ask f.gave.item (bounding_item_at nodes page) bound (opened-reach nodes tree.root MayStart (LetsThrough ids at ask) (hits_for ids at ask) openings page level bound f) f.gave.admitted).0)
+      r.from
+
+  module _ (k : ℕ) (found : List Hit) (query : queries.Query)
+      (called : (openings : List Opening) (page level bound : ℕ) → Reached openings page level bound → (length found ≡ k → bound ≤ last_cost found) → (is_root : Type 0) → CallsFor ids query found is_root (bounding_item_at nodes page)) (old new : List ℕ) where
+    -- what a search that opens only nodes that a query calls for says of its log
+    pub search-by : Opened StandsIn pages (IsNodePage pages tree.rows) (FitsTree pages count begin tree) (opened_in ids at ask nodes) (started_in ids ask nodes (bytes_in pages tree.rows) tree.root) tree.root old new k found
+        → OpensFew (λ page. 0 < map_uses rows_form pages tree.rows page) (hits_for ids at ask) ids query nodes tree.root old new found
+    search-by o =
+        let t = o.told in
+        let openings : List Opening = t.openings in
+        let l = t.log_given fits in
+        let asked : List ℕ = l.more in
+        let Is : ℕ → Type 0 = IsOpened ids query nodes tree.root asked found in
+        let read : AllByRecursion (λ (p : Opening). Contains asked p.page) openings = all_weaker _ (λ (p : Opening). Contains asked p.page) (λ p since. asked-in old new asked p.page l.log since) openings t.read in
+        let starting = start-all (AreReached nodes tree.root MayStart (LetsThrough ids at ask) (hits_for ids at ask) []) Is (some_below 32 (λ i. qualifies ask 1 (byte_of ids (bytes_in pages tree.rows tree.root) i))) tree.root (level_at nodes tree.root)
+        (λ there may.
+        let r = root-reached nodes tree.root MayStart (LetsThrough ids at ask) (hits_for ids at ask) 0 there fits.1.tree (may-start there may) in
+        (r, opened-from nodes tree.root MayStart (LetsThrough ids at ask) (hits_for ids at ask) [] asked tt ids query found tree.root (level_at nodes tree.root) 0 r (called [] tree.root (level_at nodes tree.root) 0 r (λ all. omega arith) _))) in
+        let begun : AllByRecursion (AreReached nodes tree.root MayStart (LetsThrough ids at ask) (hits_for ids at ask) []) t.start = subst (AllByRecursion (AreReached nodes tree.root MayStart (LetsThrough ids at ask) (hits_for ids at ask) [])) (sym (t.begun fits)) starting.0 in
+        let reached = (all-reached nodes tree.root MayStart (LetsThrough ids at ask) (hits_for ids at ask) (opened_in ids at ask nodes) (opens-give ids at ask nodes tree.root MayStart) t.start begun openings t.trail (t.gave fits)).1 in
+        let opened : AllByRecursion (λ (p : Opening). Is p.page) openings = all_weaker (λ (p : Opening). Contains openings p × Reached openings p.page p.level p.bound) (λ (p : Opening). Is p.page)
+        (λ p h. opened-from nodes tree.root MayStart (LetsThrough ids at ask) (hits_for ids at ask) openings asked read ids query found p.page p.level p.bound h.1
+        (called openings p.page p.level p.bound h.1 (λ all. of-member (λ (q : Opening). q.bound ≤ last_cost found) openings p (o.few fits all) h.0) _))
+        openings (all-both (Contains openings) (λ (p : Opening). Reached openings p.page p.level p.bound) openings (all_in openings) reached) in
+        let each : AllByRecursion Is (pages_of t.start ++ pages_opened openings) =
+        all_append Is (pages_of t.start) (pages_opened openings) (subst (λ (items : List best.Item). AllByRecursion Is (pages_of items)) (sym (t.begun fits)) starting.1) (all-pages Is openings opened) in
+        record {
+          asked = asked;
+          log = l.log;
+          each = all_weaker _ (λ page. (0 < map_uses rows_form pages tree.rows page) ⊎ Is page)
+              (λ page h. ⊎_elim (λ (none : map_uses rows_form pages tree.rows page ≡ 0). inr (of-member Is (pages_of t.start ++ pages_opened openings) page each (h none))) (λ used. inl used) (none_or (map_uses rows_form pages tree.rows page)))
+              asked l.alone;
+          from = all_weaker (IsFromLeaf openings) (IsFromAsked nodes asked (hits_for ids at ask))
+              (λ hit leaf. found-from nodes tree.root MayStart (LetsThrough ids at ask) (hits_for ids at ask) openings asked read (opened_in ids at ask nodes) (opens-give ids at ask nodes tree.root MayStart) (t.gave fits)
+              (λ p c. (of-member (λ (q : Opening). Reached openings q.page q.level q.bound) openings p reached c).node.level_is) hit leaf)
+              found t.from_leaf;
+        }
+
   module _ (k : ℕ) (found : List Hit) (some : 0 < k) (is : found ≡ first comes_before k (flat_map (hits_for ids at ask) (tree_places nodes tree.root))) where
     abbrev Calls : Item → Type 0
     Calls round = IsCalled ids at ask k found round
-
-    called-may : (openings : List Opening) (page level bound : ℕ) → Reached openings page level bound → qualifies ask 1 (impact_of ids (bounding_item_at nodes page)) ≡ true
-    called-may openings page level bound r = ⊎_elim
-        (λ (e : (page ≡ tree.root) × MayStart). subst (λ (p : ℕ). qualifies ask 1 (impact_of ids (bounding_item_at nodes p)) ≡ true) (sym e.0) e.1.1)
-        (λ f. (let-reach ids at ask f.gave.item (bounding_item_at nodes page) bound (opened-reach nodes tree.root MayStart (LetsThrough ids at ask) (hits_for ids at ask) openings page level bound f) f.gave.admitted).0)
-        r.from
 
     called-full : (openings : List Opening) (page level bound : ℕ) → Reached openings page level bound → bound ≤ last_cost found → 0 < length found
         → IsUpToLast (bound_by at ask (impact_of ids (bounding_item_at nodes page)) (bounding_item_at nodes page)) found
@@ -192,36 +229,7 @@ module _ (pages : PageMap) (count begin : ℕ) (tree : Tree) (ids : Numbers) (at
       -- what a search that found these hits says of its log
       pub search-few : Opened StandsIn pages (IsNodePage pages tree.rows) (FitsTree pages count begin tree) (opened_in ids at ask nodes) (started_in ids ask nodes (bytes_in pages tree.rows) tree.root) tree.root old new k found
           → OpensFew (λ page. 0 < map_uses rows_form pages tree.rows page) (hits_for ids at ask) ids query nodes tree.root old new found
-      search-few o =
-          let t = o.told in
-          let openings : List Opening = t.openings in
-          let l = t.log_given fits in
-          let asked : List ℕ = l.more in
-          let Is : ℕ → Type 0 = IsOpened ids query nodes tree.root asked found in
-          let read : AllByRecursion (λ (p : Opening). Contains asked p.page) openings = all_weaker _ (λ (p : Opening). Contains asked p.page) (λ p since. asked-in old new asked p.page l.log since) openings t.read in
-          let starting = start-all (AreReached nodes tree.root MayStart (LetsThrough ids at ask) (hits_for ids at ask) []) Is (some_below 32 (λ i. qualifies ask 1 (byte_of ids (bytes_in pages tree.rows tree.root) i))) tree.root (level_at nodes tree.root)
-          (λ there may.
-          let r = root-reached nodes tree.root MayStart (LetsThrough ids at ask) (hits_for ids at ask) 0 there fits.1.tree (may-start there may) in
-          (r, opened-from nodes tree.root MayStart (LetsThrough ids at ask) (hits_for ids at ask) [] asked tt ids query found tree.root (level_at nodes tree.root) 0 r (calls _ _ (called [] tree.root (level_at nodes tree.root) 0 r (λ all. omega arith))))) in
-          let begun : AllByRecursion (AreReached nodes tree.root MayStart (LetsThrough ids at ask) (hits_for ids at ask) []) t.start = subst (AllByRecursion (AreReached nodes tree.root MayStart (LetsThrough ids at ask) (hits_for ids at ask) [])) (sym (t.begun fits)) starting.0 in
-          let reached = (all-reached nodes tree.root MayStart (LetsThrough ids at ask) (hits_for ids at ask) (opened_in ids at ask nodes) (opens-give ids at ask nodes tree.root MayStart) t.start begun openings t.trail (t.gave fits)).1 in
-          let opened : AllByRecursion (λ (p : Opening). Is p.page) openings = all_weaker (λ (p : Opening). Contains openings p × Reached openings p.page p.level p.bound) (λ (p : Opening). Is p.page)
-          (λ p h. opened-from nodes tree.root MayStart (LetsThrough ids at ask) (hits_for ids at ask) openings asked read ids query found p.page p.level p.bound h.1
-          (calls _ _ (called openings p.page p.level p.bound h.1 (λ all. of-member (λ (q : Opening). q.bound ≤ last_cost found) openings p (o.few fits all) h.0))))
-          openings (all-both (Contains openings) (λ (p : Opening). Reached openings p.page p.level p.bound) openings (all_in openings) reached) in
-          let each : AllByRecursion Is (pages_of t.start ++ pages_opened openings) =
-          all_append Is (pages_of t.start) (pages_opened openings) (subst (λ (items : List best.Item). AllByRecursion Is (pages_of items)) (sym (t.begun fits)) starting.1) (all-pages Is openings opened) in
-          record {
-            asked = asked;
-            log = l.log;
-            each = all_weaker _ (λ page. (0 < map_uses rows_form pages tree.rows page) ⊎ Is page)
-                (λ page h. ⊎_elim (λ (none : map_uses rows_form pages tree.rows page ≡ 0). inr (of-member Is (pages_of t.start ++ pages_opened openings) page each (h none))) (λ used. inl used) (none_or (map_uses rows_form pages tree.rows page)))
-                asked l.alone;
-            from = all_weaker (IsFromLeaf openings) (IsFromAsked nodes asked (hits_for ids at ask))
-                (λ hit leaf. found-from nodes tree.root MayStart (LetsThrough ids at ask) (hits_for ids at ask) openings asked read (opened_in ids at ask nodes) (opens-give ids at ask nodes tree.root MayStart) (t.gave fits)
-                (λ p c. (of-member (λ (q : Opening). Reached openings q.page q.level q.bound) openings p reached c).node.level_is) hit leaf)
-                found t.from_leaf;
-          }
+      search-few o = search-by k found query (λ openings page level bound r low is_root. calls (bounding_item_at nodes page) is_root (called openings page level bound r low)) old new o
 
 module _ (pages : PageMap) (count begin : ℕ) (tree : Tree) (ids : Numbers) (at : Viewpoint) (k : ℕ) (found : List Hit) (old new : List ℕ) where
   -- a nearest query
@@ -230,6 +238,14 @@ module _ (pages : PageMap) (count begin : ℕ) (tree : Tree) (ids : Numbers) (at
       → OpensFew (λ page. 0 < map_uses rows_form pages tree.rows page) (near_item ids at (filter_in filter)) ids (asked_for.Nearest at.point at.scale k (filter_in filter)) (nodes_at pages tree) tree.root old new found
   nearest-few None on fits some is o = search-few pages count begin tree ids at (Nearest None) on fits k found some is (asked_for.Nearest at.point at.scale k None) (λ round is_root c. c.plain tt) old new o
   nearest-few (Some filter) on fits some is o = search-few pages count begin tree ids at (Nearest (Some filter)) on fits k found some is (asked_for.Nearest at.point at.scale k (Some filter.now)) (λ round is_root c. (c.may, c.full)) old new o
+
+  -- A nearest query that finds at most k places, which needn't be the nearest: a limit may cut them. It opens what one for more than k does.
+  pub limited-few : (filter : Bor Expr) → IsViewpoint at → FitsTree pages count begin tree → length found ≤ k
+      → Opened StandsIn pages (IsNodePage pages tree.rows) (FitsTree pages count begin tree) (opened_in ids at (Nearest (Some filter)) (nodes_at pages tree)) (started_in ids (Nearest (Some filter)) (nodes_at pages tree) (bytes_in pages tree.rows) tree.root) tree.root old new k found
+      → OpensFew (λ page. 0 < map_uses rows_form pages tree.rows page) (near_item ids at (Some filter.now)) ids (asked_for.Nearest at.point at.scale (suc k) (Some filter.now)) (nodes_at pages tree) tree.root old new found
+  limited-few filter on fits short o =
+      search-by pages count begin tree ids at (Nearest (Some filter)) on fits k found (asked_for.Nearest at.point at.scale (suc k) (Some filter.now))
+      (λ openings page level bound r low is_root. (called-may pages count begin tree ids at (Nearest (Some filter)) on fits openings page level bound r, λ all. absurd (omega arith))) old new o
 
   top-calls : (alpha reach : ℕ) (words : Weighted) (ask : Ask) → IsTopFor alpha reach words ask → (round : Item) (is_root : Type 0) → IsCalled ids at ask k found round → CallsFor ids (asked_for.Top at.point at.scale k alpha reach words) found is_root round
   top-calls alpha reach words (Nearest filter) is round is_root c = absurd is

@@ -7,7 +7,7 @@ use Rattle.rtree_nodes.specs.Slots.{Item, NodeMap, IsChildAt}
 use Rattle.irtree_shape.specs.Whole.{tree_uses}
 use Rattle.place_values.specs.declared.hit.Hit.{Hit}
 use Rattle.place_values.specs.declared.query.Query.{Query}
-use Rattle.place_values.specs.declared.query.Query.TheVariants.{Range, Inside, Nearest, Top, Group}
+use Rattle.place_values.specs.declared.query.Query.TheVariants.{Range, Inside, Nearest, Top, Rare, Group, Gather}
 use Rattle.best_first.specs.Openings.{last_cost}
 use Rattle.node_filter.specs.Entries.{rect_of_item}
 use Rattle.node_filter.specs.Numbers.{Numbers}
@@ -22,7 +22,7 @@ IsUpToLast bound (h ∷ hs) = bound ≤ last_cost (h ∷ hs)
 
 -- A query with these hits calls for a node, the root or not, with this round the places below it. One of them may be an answer; and a range
 -- comes as near and a box meets the rectangle, but for the root's, while no place of a nearest or top query costs less than its bound, which is
--- at most the last hit's cost. Only where a filter leaves fewer than k hits the bound may be greater.
+-- at most the last hit's cost. Only where a filter leaves fewer than k hits the bound may be greater. A query by rarity is asked as a top query.
 abbrev pub CallsFor : Numbers → Query → List Hit → Type 0 → Item → Type 0
 CallsFor ids (Range at scale radius filter) found is_root round = is_root ⊎ ((may_answer ids (Range at scale radius filter) round ≡ true) × (mindist_of (rect_of_item round) (seen_from at scale) ≤ radius))
 CallsFor ids (Inside rect filter) found is_root round = is_root ⊎ ((may_answer ids (Inside rect filter) round ≡ true) × (overlaps rect (rect_of_item round) ≡ true))
@@ -31,7 +31,9 @@ CallsFor ids (Nearest at scale k (Some filter)) found is_root round =
     (may_answer ids (Nearest at scale k (Some filter)) round ≡ true) × (length found ≡ k → IsUpToLast (bound_for ids (Nearest at scale k (Some filter)) round) found)
 CallsFor ids (Top at scale k alpha reach words) found is_root round =
     (may_answer ids (Top at scale k alpha reach words) round ≡ true) × IsUpToLast (bound_for ids (Top at scale k alpha reach words) round) found
+CallsFor ids (Rare at scale k alpha reach words) found is_root round = ⊥
 CallsFor ids (Group at scale words) found is_root round = ⊥
+CallsFor ids (Gather at scale words) found is_root round = ⊥
 
 -- the node at a page is a child of one that was asked for
 pub record IsChildOfAsked (nodes : NodeMap) (asked : List ℕ) (page : ℕ) : Type 0 where

@@ -23,5 +23,5 @@ mod region_queries;
 mod sorting;
 mod walk;
 
-pub use nearest_query::nearest;
+pub use nearest_query::{Vicinity, nearest, nearest_within};
 pub use region_queries::{inside, range};

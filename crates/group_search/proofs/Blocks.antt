@@ -149,7 +149,7 @@ kept-better at lists old new picks was is least =
         choice = ⊎_elim (λ (same : old.picks ≡ new.picks). subst (IsChoice lists) same was.choice)
             (λ (later : Contains (picks ∷ []) new.picks). ⊎_elim (λ (same : picks ≡ new.picks). subst (IsChoice lists) same is) (λ (none : Contains [] new.picks). absurd (contains-none new.picks none)) (contains-cases picks [] new.picks later))
             (contains-cases old.picks (picks ∷ []) new.picks (least-among at (old.picks ∷ picks ∷ []) new (sym least)));
-        cost = least_cost at (old.picks ∷ picks ∷ []) new (sym least);
+        cost = least_cost (choice_cost at) (old.picks ∷ picks ∷ []) new (sym least);
       };
       after = firsts.0;
     }

@@ -6,7 +6,7 @@ use Rattle.best_first.specs.Lists.{all_in, all_weaker}
 use Rattle.spatial_base.specs.Point.{Viewpoint}
 use Rattle.place_values.specs.declared.query.Pick.{Pick}
 use Rattle.place_values.specs.declared.query.Chosen.{Chosen}
-use Rattle.place_values.specs.Group.{is_cheaper, least_of}
+use Rattle.place_values.specs.Group.{is_cheaper, least_of, choice_cost}
 use Rattle.place_values.specs.GroupLaws.{choices_linear, least_cost}
 use Rattle.group_search.specs.Choices.{IsChoice, IsCut, AreCut}
 use Rattle.group_search.proofs.Least.{costed, least-among, least-first, least-some, least-is}
@@ -50,7 +50,7 @@ module _ (counts : Pick → Type 0) where
 
 -- the least of some choices has its own cost
 own-cost : (at : Viewpoint) (choices : List (List Pick)) (found : Chosen) → least_of at choices ≡ Some found → Some found ≡ Some (costed at found.picks)
-own-cost at choices found is = let own = least_cost at choices found is in λ i. Some record { cost = own i; picks = found.picks }
+own-cost at choices found is = let own = least_cost (choice_cost at) choices found is in λ i. Some record { cost = own i; picks = found.picks }
 
 -- Choices that don't come before one that was tried needn't be.
 pub covered-least : (at : Viewpoint) (tried some all : List (List Pick)) (best : Chosen) → Some best ≡ least_of at tried → ((choice : List Pick) → Contains some choice → Contains all choice)
@@ -74,6 +74,6 @@ covered-least at tried some all best was own covered =
     (λ (same : best.picks ≡ other). subst (Contains whole) same best_among)
     (λ (later : Contains some other). Contains-append_right tried some other later)
     (contains-cases best.picks some other cover.1) in
-    (choices_linear at).chain found.picks other choice (not_before other among_whole) cover.2)
+    (choices_linear (choice_cost at)).chain found.picks other choice (not_before other among_whole) cover.2)
     (Contains-append_cases tried all choice c) in
     least.1 ∙ own-cost at whole found least.1 ∙ sym (least-is at more found.picks among (all_weaker (Contains more) (λ choice. is_cheaper at choice found.picks ≡ false) none_before more (all_in more)))

@@ -90,7 +90,7 @@ one-tried at best is = λ i. Some record { cost = is i; picks = best.picks }
 
 -- no choice before a best one comes before a better one
 pub chained : (at : Viewpoint) (old new choice : List Pick) → is_cheaper at old new ≡ false → is_cheaper at choice old ≡ false → is_cheaper at choice new ≡ false
-chained at old new choice = (choices_linear at).chain new old choice
+chained at old new choice = (choices_linear (choice_cost at)).chain new old choice
 
 -- a choice that costs more comes after
 pub dear : (at : Viewpoint) (lists : List (List Pick)) (best : Chosen) (choice : List Pick) → IsChosen at lists best → best.cost < choice_cost at choice → is_cheaper at choice best.picks ≡ false
@@ -127,7 +127,7 @@ module _ (at : Viewpoint) (lists cuts : List (List Pick)) (old new : Chosen) (wa
       choice = ⊎_elim (λ (same : old.picks ≡ new.picks). subst (IsChoice lists) same was.choice)
           (λ (c : Contains (product cuts) new.picks). own new.picks (all-contained (IsChoice cuts) (product cuts) new.picks (all-choices cuts) c))
           (contains-cases old.picks (product cuts) new.picks (least-among at (old.picks ∷ product cuts) new (sym is)));
-      cost = least_cost at (old.picks ∷ product cuts) new (sym is);
+      cost = least_cost (choice_cost at) (old.picks ∷ product cuts) new (sym is);
     }
 
 -- so it betters, where the lists that are searched are cut from others to what counts

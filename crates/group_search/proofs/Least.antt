@@ -24,7 +24,7 @@ costed at picks = record { cost = choice_cost at picks; picks = picks }
 
 -- none comes before itself
 pub itself : (at : Viewpoint) (picks : List Pick) → is_cheaper at picks picks ≡ false
-itself at picks = ⊎_elim (λ (t : is_cheaper at picks picks ≡ true). (choices_linear at).one_way picks picks t) (λ f. f) (cases_Bool (is_cheaper at picks picks))
+itself at picks = ⊎_elim (λ (t : is_cheaper at picks picks ≡ true). (choices_linear (choice_cost at)).one_way picks picks t) (λ f. f) (cases_Bool (is_cheaper at picks picks))
 
 module _ (at : Viewpoint) (choices : List (List Pick)) where
   head-holds : (P : List Pick → Type 0) (best : Chosen) (in_order : List (List Pick)) → AllByRecursion P in_order → head_of at (take 1 in_order) ≡ Some best → P best.picks
@@ -33,7 +33,7 @@ module _ (at : Viewpoint) (choices : List (List Pick)) where
 
   -- the least is one of them
   pub least-among : (best : Chosen) → least_of at choices ≡ Some best → Contains choices best.picks
-  least-among best is = head-holds (Contains choices) best (ranked (is_cheaper at) choices) (all-ranked (choices_linear at) (Contains choices) choices (all_in choices)) is
+  least-among best is = head-holds (Contains choices) best (ranked (is_cheaper at) choices) (all-ranked (choices_linear (choice_cost at)) (Contains choices) choices (all_in choices)) is
 
   head-first : (best : Chosen) (in_order : List (List Pick)) → IsRanked (is_cheaper at) in_order → head_of at (take 1 in_order) ≡ Some best → AllByRecursion (λ picks. is_cheaper at picks best.picks ≡ false) in_order
   head-first best [] in_order is = tt
@@ -44,11 +44,11 @@ module _ (at : Viewpoint) (choices : List (List Pick)) where
   -- and none comes before it
   pub least-first : (best : Chosen) → least_of at choices ≡ Some best → AllByRecursion (λ picks. is_cheaper at picks best.picks ≡ false) choices
   least-first best is =
-      ranked-all (choices_linear at) (λ picks. is_cheaper at picks best.picks ≡ false) choices (head-first best (ranked (is_cheaper at) choices) (ranked_is (choices_linear at) choices) is)
+      ranked-all (choices_linear (choice_cost at)) (λ picks. is_cheaper at picks best.picks ≡ false) choices (head-first best (ranked (is_cheaper at) choices) (ranked_is (choices_linear (choice_cost at)) choices) is)
 
   -- where there is a choice, there is a least one
   pub least-some : (picks : List Pick) → Contains choices picks → (best : Chosen) × (least_of at choices ≡ Some best)
-  least-some picks among = some (ranked (is_cheaper at) choices) (among-ranked (choices_linear at) choices picks among)
+  least-some picks among = some (ranked (is_cheaper at) choices) (among-ranked (choices_linear (choice_cost at)) choices picks among)
     where
       some : (in_order : List (List Pick)) → Contains in_order picks → (best : Chosen) × (head_of at (take 1 in_order) ≡ Some best)
       some [] c = absurd (contains-none picks c)
@@ -57,14 +57,14 @@ module _ (at : Viewpoint) (choices : List (List Pick)) where
   -- one of them that none comes before is the least
   pub least-is : (picks : List Pick) → Contains choices picks → AllByRecursion (λ other. is_cheaper at other picks ≡ false) choices → least_of at choices ≡ Some (costed at picks)
   least-is picks among all =
-      let l = choices_linear at in
+      let l = choices_linear (choice_cost at) in
       first-is (ranked (is_cheaper at) choices) (ranked_is l choices) (all-ranked l (λ other. is_cheaper at other picks ≡ false) choices all) (among-ranked l choices picks among)
     where
       first-is : (in_order : List (List Pick)) → IsRanked (is_cheaper at) in_order → AllByRecursion (λ other. is_cheaper at other picks ≡ false) in_order → Contains in_order picks → head_of at (take 1 in_order) ≡ Some (costed at picks)
       first-is [] ranks all c = absurd (contains-none picks c)
       first-is (first ∷ rest) ranks all c =
           let not_before = all-contained (λ other. is_cheaper at other first ≡ false) (first ∷ rest) picks (itself at first, ranks.0) c in
-          let same : first ≡ picks = (choices_linear at).same first picks all.0 not_before in
+          let same : first ≡ picks = (choices_linear (choice_cost at)).same first picks all.0 not_before in
           ap (λ p. Some (costed at p)) same
 
 -- a choice of a greater cost comes after
@@ -73,4 +73,4 @@ dearer-after at picks best less = ap (λ o. ordering_then o (slice_cmp pick_cmp 
 
 -- the same choices have the same least one
 pub least-same : (at : Viewpoint) (choices others : List (List Pick)) → SameMembers choices others → least_of at others ≡ least_of at choices
-least-same at choices others same = ap (λ in_order. head_of at (take 1 in_order)) (ranked_same (choices_linear at) choices others same)
+least-same at choices others same = ap (λ in_order. head_of at (take 1 in_order)) (ranked_same (choices_linear (choice_cost at)) choices others same)

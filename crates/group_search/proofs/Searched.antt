@@ -83,7 +83,7 @@ module _ (at : Viewpoint) (lists kept sorted tried : List (List Pick)) (best : C
         (other.0, other.1, (let fewer = fewer-cost at other.0 choice other.2 in omega arith))
 
     costs : best.cost ≡ choice_cost at best.picks
-    costs = least_cost at tried best (sym was)
+    costs = least_cost (choice_cost at) tried best (sym was)
 
     is-choice : (choice : List Pick) → Contains (product lists) choice → IsChoice lists choice
     is-choice choice c = all-contained (IsChoice lists) (product lists) choice (all-choices lists) c

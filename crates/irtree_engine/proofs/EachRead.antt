@@ -37,6 +37,6 @@ reads-then P old now new first later = record {
 }
 
 -- the reads of pages in a log by which an answer was found
-pub reads-logged : (held : stores.Contents) (state : Contents) (query : Query) (asked : List ℕ) (old new : World) → IsFoundByFew held.pages held.block query [] asked (answer_of state query) → ReadsOnly asked old new → EachRead (IsReadForQuery held state query) old new
+pub reads-logged : (held : stores.Contents) (state : Contents) (query : Query) (asked : List ℕ) (old new : World) → IsFoundByFew held.pages held.block state query [] asked (answer_of state query) → ReadsOnly asked old new → EachRead (IsReadForQuery held state query) old new
 reads-logged held state query asked old new few reads = reads-by (IsReadOf asked) (IsReadForQuery held state query) old new (λ r page. record { asked = asked; few = few; page = page })
     (record { taken = reads.taken; are = reads.are; each = reads.each })

@@ -15,7 +15,10 @@ use Rattle.store_tables.specs.declared.tables.Tables.{Tables}
 use Rattle.store_tables.specs.Holding.{texts_form}
 use Rattle.store_tables.proofs.Heads.{map-spares_head, number-spares_head, place-spares_head, put-spares_head, words-spares_head}
 use Rattle.irtree_shape.specs.Regrown.{IsMissing}
-use Rattle.query_execution.specs.Damages.{IsAnswerHarm}
+use Rattle.place_values.specs.declared.query.Query.{Query}
+use Rattle.place_values.specs.declared.query.Query.TheVariants.{Range, Inside, Nearest, Top, Rare, Group, Gather}
+use Rattle.collective_query.specs.Searches.{IsSearchHarm}
+use Rattle.query_execution.specs.Damages.{IsHitsHarm, IsWeighingHarm}
 use Rattle.irtree_engine.specs.Damages.{IsShownDamage}
 
 -- that of a change of a tree, where the counted pages are told
@@ -35,12 +38,10 @@ pub old-spares_head : (old : Option Stored) (pages : PageMap) (rows count first 
 old-spares_head None pages rows count first root key damage missing = absurd missing
 old-spares_head (Some stored) pages rows count first root key damage missing = missing-spares_head pages rows count first root key stored.point damage missing
 
--- that of an answer by the tree
-pub answer-spares_head : (pages : PageMap) (count : ℕ) (tables : Tables) (tree : Tree) (before after : List ℕ) (damage : Damage) → IsAnswerHarm pages count tables tree before after damage → damage.rule ≢ Head
-answer-spares_head pages count tables tree before after damage harm e =
+-- that of a search of the tree
+search-spares_head : (pages : PageMap) (count : ℕ) (tree : Tree) (before after : List ℕ) (damage : Damage) → IsSearchHarm pages count tree before after damage → damage.rule ≢ Head
+search-spares_head pages count tree before after damage harm e =
     ⊎_elim
-    (λ text. map-spares_head texts_form pages count tables.texts damage text.0 e)
-    (λ behind. ⊎_elim
     (λ query. ⊎_elim
     (λ node. ⊎_elim (λ alone. (rw e at alone)) (λ wrong. (let is = wrong.0 in cc)) node.breaks)
     (λ map. map-spares_head rows_form pages count tree.rows damage map.0 e)
@@ -49,6 +50,27 @@ answer-spares_head pages count tables tree before after damage harm e =
     (λ node. ⊎_elim (λ alone. (rw e at alone)) (λ below. (let is = below.0 in cc)) node)
     (λ map. map-spares_head rows_form pages count tree.rows damage map e)
     ranked.1)
+    harm
+
+-- that of words that are weighed
+weighing-spares_head : (pages : PageMap) (count live : ℕ) (tables : Tables) (query : Query) (before after : List ℕ) (damage : Damage) → IsWeighingHarm pages count live tables query before after damage → damage.rule ≢ Head
+weighing-spares_head pages count live tables (Rare at scale k alpha reach words) before after damage harm e =
+    ⊎_elim (λ number. number-spares_head pages count tables.numbers number.0 before after damage number.1 e) (λ over. words-spares_head damage over.0 e) harm
+weighing-spares_head pages count live tables (Range at scale radius filter) before after damage harm e = absurd harm
+weighing-spares_head pages count live tables (Inside rect filter) before after damage harm e = absurd harm
+weighing-spares_head pages count live tables (Nearest at scale k filter) before after damage harm e = absurd harm
+weighing-spares_head pages count live tables (Top at scale k alpha reach words) before after damage harm e = absurd harm
+weighing-spares_head pages count live tables (Group at scale words) before after damage harm e = absurd harm
+weighing-spares_head pages count live tables (Gather at scale words) before after damage harm e = absurd harm
+
+-- that of an answer to a query
+pub answer-spares_head : (pages : PageMap) (count live : ℕ) (tables : Tables) (tree : Tree) (query : Query) (before after : List ℕ) (damage : Damage) → IsHitsHarm pages count live tables tree query before after damage → damage.rule ≢ Head
+answer-spares_head pages count live tables tree query before after damage harm e =
+    ⊎_elim
+    (λ text. map-spares_head texts_form pages count tables.texts damage text.0 e)
+    (λ behind. ⊎_elim
+    (λ weighing. weighing-spares_head pages count live tables query behind.0 after damage weighing e)
+    (λ later. search-spares_head pages count tree later.0 after damage later.2 e)
     behind.2)
     harm
 

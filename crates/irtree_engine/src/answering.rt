@@ -24,8 +24,9 @@ impl<'d, D: Station> Engine<'d, D> {
     /// whatever else happened; `Damaged`, never if the image holds a state; and `Memory`.
     ///
     /// For each word of the query, looks at one page a level of the words by text. Then opens the nodes that may hold an answer. Each costs
-    /// a look at its page, and one page a level of the rows of words for each word of the query that the store knows. A group query makes
-    /// one search for each of its words, and more in the cases that `collective_query::group` lists.
+    /// a look at its page, and one page a level of the rows of words for each word of the query that the store knows. A query by rarity
+    /// looks first at one page a level of the words by number for each of its words. A group query makes one search for each of its words,
+    /// and more in the cases that `collective_query::group` lists; a gather query one for each set of its words.
     pub fn answer(&mut self, query: &Query) -> Result<Answer, EngineFault>
         requires { IsWithinLimits query.now }
         ensures same_loan { self.new.store.disk.ghost_name ≡ self.old.store.disk.ghost_name }
@@ -36,17 +37,17 @@ impl<'d, D: Station> Engine<'d, D> {
 
         // Few nodes were opened: each page of the log is one of the words by text or of the rows of words, or a node that the query needs.
         ensures opened { IsTrue D.readable → (state : Contents) → HoldsState (D.world self.old.store.disk.now) state
-            → IfOk result (IsFoundByFew (⟦<Store<'d, D> as Pages>⟧.pages self.old.store) self.old.store.current query.now [] self.new.store.asked.items) }
+            → IfOk result (IsFoundByFew (⟦<Store<'d, D> as Pages>⟧.pages self.old.store) self.old.store.current state query.now [] self.new.store.asked.items) }
         // The same by what the image holds: each read of the device is of a page in such a log.
         ensures opens_few { IsTrue D.readable → (state : Contents) → HoldsState (D.world self.old.store.disk.now) state
             → OnOk result (EachRead (IsReadForQuery (contents_held (D.world self.old.store.disk.now).seen) state query.now) (D.world self.old.store.disk.now) (D.world self.new.store.disk.now)) }
 
         // A page of the log breaks a rule, as reads give it.
         ensures damaged { IsTrue D.readable → (damage : Damage) → IsErrOf result (EngineFault.Damaged damage)
-            → IsQueryDamage (⟦<Store<'d, D> as Pages>⟧.pages self.old.store) self.old.store.current [] self.new.store.asked.items damage }
+            → IsQueryDamage (⟦<Store<'d, D> as Pages>⟧.pages self.old.store) self.old.store.current query.now [] self.new.store.asked.items damage }
         // The same by what the image holds, whether or not it holds a state.
         ensures broken { IsTrue D.readable → (damage : Damage) → IsErrOf result (EngineFault.Damaged damage)
-            → IsQueryDamageIn (contents_held (D.world self.old.store.disk.now).seen) damage }
+            → IsQueryDamageIn (contents_held (D.world self.old.store.disk.now).seen) query.now damage }
         ensures no_head { IsTrue D.readable → (damage : Damage) → IsErrOf result (EngineFault.Damaged damage) → damage.rule ≢ Rule.Head }
         ensures stopped { IsErrOf result EngineFault.Stopped ↔ IsTrue self.old.stopped }
         ensures causes { IfErr result IsReadFault }

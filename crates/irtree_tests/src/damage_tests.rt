@@ -22,11 +22,12 @@ enum Spot {
 }
 
 // Eight places with two words each. `show` reads a place and its words. An update and a load put another word in their place at the first,
-// in the tree too. `top` and `group` read a word's number, the tree and the rows of words.
+// in the tree too. The other queries read a word's number, the tree and the rows of words, and one by rarity
+// how many places have the word.
 static STORE: &[u8] =
     b"add p0 1 1 x y\nadd p1 1 1 x y\nadd p2 1 1 x y\nadd p3 1 1 x y\nadd p4 1 1 x y\nadd p5 1 1 x y\nadd p6 1 1 x y\nadd p7 1 1 x y\n";
 
-static ACTIONS: [(&[&str; 2], &[u8]); 5] = [
+static ACTIONS: [(&[&str; 2], &[u8]); 7] = [
     (&["-", "run"], b"show p0\n"),
     (&["-", "run"], b"add p0 2 2 z\n"),
     (
@@ -35,19 +36,21 @@ static ACTIONS: [(&[&str; 2], &[u8]); 5] = [
     ),
     (&["-", "run"], b"top 0 0 3 500 1 words x\n"),
     (&["-", "run"], b"group 0 0 words x y\n"),
+    (&["-", "run"], b"gather 0 0 words x y\n"),
+    (&["-", "run"], b"top 0 0 3 500 1 idf words x\n"),
 ];
 
 // Which of the actions meet a rule that is broken: those that read places, those that read the tree, those that change both, or none.
-const PLACES: [bool; 5] = [true, true, true, false, false];
+const PLACES: [bool; 7] = [true, true, true, false, false, false, false];
 
-const TREE: [bool; 5] = [false, true, true, true, true];
+const TREE: [bool; 7] = [false, true, true, true, true, true, true];
 
-const CHANGES: [bool; 5] = [false, true, true, false, false];
+const CHANGES: [bool; 7] = [false, true, true, false, false, false, false];
 
-const NONE: [bool; 5] = [false; 5];
+const NONE: [bool; 7] = [false; 7];
 
 // The page of a byte, its offset and the byte that breaks a rule, the page and the rule that are named, and which actions meet it.
-static BROKEN: [(Spot, u32, u8, Spot, Rule, [bool; 5]); 14] = [
+static BROKEN: [(Spot, u32, u8, Spot, Rule, [bool; 7]); 14] = [
     // The root names a page that isn't counted.
     (Spot::Root, 82, 127, Spot::Uncounted, Rule::Link, PLACES),
     // The leaf is of no kind.

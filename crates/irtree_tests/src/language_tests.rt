@@ -5,7 +5,7 @@ use std::alloc::AllocError;
 use std::test::Fail;
 
 // A script, and what it prints.
-static SCRIPTS: [(&[u8], &[u8]); 12] = [
+static SCRIPTS: [(&[u8], &[u8]); 14] = [
     // A place is shown with its label, and its words in their order.
     (
         b"add k 0 0 Caf\xc3\xa9 caf\xc3\xa9 bar\nshow k\nshow z\n",
@@ -30,6 +30,16 @@ static SCRIPTS: [(&[u8], &[u8]); 12] = [
     (
         b"add m 0 1 a b\ngroup 0 0 words a b\ngroup 0 0 words a z\ngroup 0 0 words a A\n",
         b"ok\n= 2 1.0000000\n1 \"a\" \"m\" 1.0000000\n2 \"b\" \"m\" 1.0000000\nnone\nbad word\n",
+    ),
+    // A place that serves three words costs less in sum than three places. Its reasons, a word that no place has, and one with a weight.
+    (
+        b"add m 0 2 a b c\nadd a1 1 0 a\nadd b1 0 1 b\nadd c1 -1 0 c\ngather 0 0 words a b c\nexplain gather 0 0 scale 500 words a\ngather 0 0 words a z\ngather 0 0 words a*2\n",
+        b"ok\nok\nok\nok\n= 3 2.0000000\n1 \"a\" \"m\" 2.0000000\n2 \"b\" \"m\" 2.0000000\n3 \"c\" \"m\" 2.0000000\n= 1 0.5000000\n1 \"a\" \"a1\" 0.5000000 at 1.0000000 0.0000000\nnone\nbad word\n",
+    ),
+    // Weights by rarity: one place has \"bar\", and both have \"cafe\".
+    (
+        b"add p 0 0.5 cafe\nadd q 0 0 cafe bar\ntop 0 0 2 500 1 idf words cafe bar\ntop 0 0 2 500 1 idf words tea\ntop 0 0 2 500 1 idf words cafe*2\nexplain top 0 0 2 500 1 idf words cafe\ntop 0 0 2 500 1 words idf\n",
+        b"ok\nok\n= 2\n1 \"q\" 1905000000000\n2 \"p\" 4462500000000\n= 0\nbad word\nbad extra\n= 0\n",
     ),
     // Filters, a reserved word in quotes, and the border of a box.
     (

@@ -6,6 +6,7 @@ use Rattle.page_journal.specs.Record.{StandsFor, applied}
 use Rattle.page_store.specs.Contents as pages
 use Rattle.irtree_engine.specs.Damages.{IsQueryDamageIn, IsShownDamageIn}
 use Rattle.irtree_engine.specs.Queries.{contents_held}
+use Rattle.place_values.specs.declared.query.Query.{Query}
 use Rattle.irtree_engine.specs.declared.fault.EngineFault.{EngineFault}
 use Rattle.irtree_engine.specs.declared.fault.EngineFault.TheVariants as engine
 use Rattle.run_outcome.specs.Causes.{end_of_engine}
@@ -34,7 +35,7 @@ module _ (old now : World) (stands : StandsFor old.seen (applied now.seen)) wher
   met-opened : (end : Ended) → IsMetIn now.seen end → NamesBrokenRule old.seen end
   met-opened (ends.Store (stores.Damaged damage)) met =
       let same : contents_held now.seen ≡ contents_held old.seen = ap pages.contents_in stands.1 in
-      inr (subst (λ (held : pages.Contents). IsQueryDamageIn held damage ⊎ IsShownDamageIn held damage) same met)
+      inr (subst (λ (held : pages.Contents). ((query : Query) × IsQueryDamageIn held query damage) ⊎ IsShownDamageIn held damage) same met)
   met-opened (ends.Store stores.NotAStore) met = tt
   met-opened (ends.Store stores.Version1) met = tt
   met-opened (ends.Store (stores.BadJournal at)) met = tt

@@ -200,12 +200,16 @@ found-quiet explain (queries.Inside rect filter) (Hits hits) = hits-quiet _ (λ 
 found-quiet explain (queries.Nearest at scale k filter) (Hits hits) = hits-quiet _ (λ hit. hit-in explain hit (32 ∷ units_text hit.dist) [] (fixed-in _) refl) hits
 found-quiet explain (queries.Top at scale k alpha reach words) (Hits hits) =
     hits-quiet _ (λ hit. hit-in explain hit (32 ∷ decimal hit.cost) _ (decimal-in hit.cost) (why-in explain (255 * weight_sum words) hit)) hits
+found-quiet explain (queries.Rare at scale k alpha reach words) (Hits hits) = hits-quiet _ (λ hit. hit-in explain hit (32 ∷ decimal hit.cost) [] (decimal-in hit.cost) refl) hits
 found-quiet explain (queries.Group at scale words) (Hits hits) = refl
+found-quiet explain (queries.Gather at scale words) (Hits hits) = refl
 found-quiet explain (queries.Group at scale words) (Group chosen) = group-quiet explain chosen
+found-quiet explain (queries.Gather at scale words) (Group chosen) = group-quiet explain chosen
 found-quiet explain (queries.Range at scale radius filter) (Group chosen) = refl
 found-quiet explain (queries.Inside rect filter) (Group chosen) = refl
 found-quiet explain (queries.Nearest at scale k filter) (Group chosen) = refl
 found-quiet explain (queries.Top at scale k alpha reach words) (Group chosen) = refl
+found-quiet explain (queries.Rare at scale k alpha reach words) (Group chosen) = refl
 
 -- the lines of words are quiet
 words-quiet : (words : List (List ℕ × ℕ)) → is_quiet true (flat_map word_line words) ≡ true

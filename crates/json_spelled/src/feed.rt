@@ -118,8 +118,8 @@ impl Feed {
 
     /// Takes the next piece of the text.
     ///
-    /// A refusal other than [`JsonFault::Memory`] is what [`read_tree`](crate::read_tree) gives for every text that begins with the bytes so
-    /// far, whatever comes after them. After a refusal every later call gives it again and takes nothing.
+    /// A refusal other than [`JsonFault::Memory`] is what [`read_tree`](crate::read_tree) gives for every text that begins with the bytes
+    /// so far, whatever comes after them. After a refusal every later call gives it again and takes nothing.
     ///
     /// It takes time in proportion to the number of bytes, wherever the text is cut. It keeps what was read of the value, and of the
     /// bytes themselves three at most.

@@ -75,7 +75,12 @@ static NO_TABLES: Tables = Tables {
 // Whether the word café and its number are found.
 fn finds_word(pages: &mut MemoryPages, cafe: &Word) -> Result<bool, PageFault> {
     let tables = tables(pages, &PLACE)?;
-    Ok(tables.number_of(pages, cafe)? == Some(7) && tables.word_of(pages, 7)? == Some(*cafe))
+    Ok(
+        tables.number_of(pages, cafe)? == Some(7)
+            && tables.word_of(pages, 7)? == Some(*cafe)
+            && tables.places_of(pages, 7)? == 1
+            && tables.places_of(pages, 8)? == 0,
+    )
 }
 
 // Whether the place is found at its key.
@@ -249,12 +254,15 @@ fn a_word_keeps_its_number_and_goes_with_its_last_place(rt: HostRuntime) -> Resu
     let mut pages = MemoryPages::new(rt.alloc(), 10);
     let mut tables = NO_TABLES;
     assert_eq!(rt; hold_all(&mut pages, &mut tables), Ok(true));
+    assert_eq!(rt; tables.places_of(&mut pages, 1), Ok(2));
+    assert_eq!(rt; tables.places_of(&mut pages, 2), Ok(1));
     assert_eq!(rt;
         released(&mut pages, &mut tables, &tea),
         Ok([Some(1), None])
     );
     assert_eq!(rt; tables.release(&mut pages, 1), Err(DISAGREEMENT));
     assert_eq!(rt; tables.word_of(&mut pages, 1), Ok(None));
+    assert_eq!(rt; tables.places_of(&mut pages, 1), Ok(0));
     assert_eq!(rt; tables.word_of(&mut pages, 2), Ok(Word::of_bytes(&CAKE)));
     assert_eq!(rt; tables.word_of(&mut pages, 3), Ok(Word::of_bytes(&ART)));
     assert_eq!(rt; tables.next_word, 4);

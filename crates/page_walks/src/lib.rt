@@ -6,10 +6,10 @@
 //! [`first_lost`] then finds a page that none of them met. Each page is read at most once. All of this ends soon on any bytes, since each
 //! step meets a page that is new. No number that a page holds limits a loop.
 //!
-//! [`Check`] gives [`PagedMap`](paged_map::PagedMap) the calls `check` and `check_into`, which decide whether a map is whole. A map is whole
-//! if it breaks none of the rules `Link` to `Level`, and no page of it is used twice or was met before. `None` is returned exactly then, and
-//! a damage names a page of the map and a rule that it breaks. `check_into` also hands the rows of each leaf to a [`Sink`], in the order of
-//! their keys, so that no row is kept in memory.
+//! [`Check`] gives [`PagedMap`](paged_map::PagedMap) the calls `check` and `check_into`, which decide whether a map is whole. A map is
+//! whole if it breaks none of the rules `Link` to `Level`, and no page of it is used twice or was met before. `None` is returned exactly
+//! then, and a damage names a page of the map and a rule that it breaks. `check_into` also hands the rows of each leaf to a [`Sink`], in
+//! the order of their keys, so that no row is kept in memory.
 //!
 //! `specs/Met.antt` defines the pages met, `specs/Misuse.antt` a page that is used where it may not be, `specs/Chains.antt` what is broken
 //! about a chain of free pages, `specs/Maps.antt` whole and broken maps, and `specs/Leaves.antt` what a sink finds in a leaf. `proofs/` has

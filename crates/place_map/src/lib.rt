@@ -8,6 +8,7 @@
 #![tactic(auto)]
 
 mod group;
+mod rare;
 mod restored;
 mod scan;
 mod state;
@@ -15,7 +16,7 @@ mod state;
 pub use place_values::{
     ALPHA_MAX, Answer, Applied, COUNT_MAX, Chosen, EXPR_LEVELS_MAX, EXPR_WORDS_MAX, Expr, Hit,
     Hits, Listed, NUMBER_MAX, PLACES_MAX, Pick, Picks, Place, Query, RADIUS_MAX, REACH_MAX,
-    TERMS_MAX, Terms, Update, UpdateFault, WEIGHT_MAX, Weights, cost_of, has_some, relevance_of,
-    sum_of_weights,
+    TERMS_MAX, Terms, Update, UpdateFault, WEIGHT_MAX, Weights, cost_of, has_some, rarity,
+    relevance_of, sum_of_weights,
 };
 pub use state::State;

@@ -138,7 +138,7 @@ fn hit_of(query: &Query, key: &Key, place: &Place) -> Option<Hit>
             key,
             place,
         ),
-        Query::Group { .. } => None,
+        Query::Rare { .. } | Query::Group { .. } | Query::Gather { .. } => None,
     }
 }
 

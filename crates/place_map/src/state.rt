@@ -9,20 +9,24 @@ ghost use Rattle.place_values.specs.First.{ranked, first};
 ghost use Rattle.place_values.specs.Hit.{comes_before};
 ghost use Rattle.place_values.specs.declared.query.Answer.TheVariants as answers;
 ghost use Rattle.place_values.specs.Answer.{answer_of, hits_of};
-ghost use Rattle.place_values.specs.Query.{IsWithinLimits};
+ghost use Rattle.place_values.specs.Group.{choices, least_by};
+ghost use Rattle.place_values.specs.Query.{IsTerms, IsWeights, IsWithinLimits};
+ghost use Rattle.place_values.specs.Rarity.{weighed_by_rarity};
 ghost use Rattle.place_values.specs.State.{IsSerialAbove, place_at, shown};
+ghost use Rattle.place_map.specs.Prices.{price_of};
 
-use crate::group::least_group;
+use crate::group::{Price, least_choice};
+use crate::rare::weighed;
 use crate::restored::{are_state_places, map_of};
 use crate::scan::{all_hits, first_hits};
 use place_values::{
-    Answer, Applied, Hits, NUMBER_MAX, PLACES_MAX, Place, Query, Update, UpdateFault,
+    Answer, Applied, Hits, NUMBER_MAX, PLACES_MAX, Place, Query, Update, UpdateFault, Weights,
 };
 use spatial_base::{Key, Memory, Origin, Point};
 use std::alloc::Global;
 use std::collections::BTreeMap;
 use std::marker::Model;
-use term_impacts::{Label, Words};
+use term_impacts::{Label, Word, Words};
 
 /// The live places by key, the next serial and the update number.
 ///
@@ -215,7 +219,8 @@ impl State {
     /// Returns the answer to a query, by a scan of all live places.
     ///
     /// A range or box query gathers its hits and sorts them. A nearest or top query keeps only the best `k` hits during the scan. A
-    /// group query goes over the choices of a place for each word, and skips those whose first places already cost too much.
+    /// query by rarity first counts the places that have each word. A group or gather query goes over the choices of a place for each
+    /// word, and skips those whose first places already cost too much.
     ///
     /// Refuses only with `Memory`.
     pub fn answer(&self, query: &Query) -> Result<Answer, Memory>
@@ -225,14 +230,52 @@ impl State {
         match query {
             Query::Range { .. } | Query::Inside { .. } => self.all_hits(query),
             Query::Nearest { k, .. } | Query::Top { k, .. } => self.first_hits(query, *k),
+            Query::Rare {
+                at,
+                scale,
+                k,
+                alpha,
+                reach,
+                words,
+            } => {
+                let words = self.weighed(words.as_slice())?;
+                let asked = Query::Top {
+                    at: *at,
+                    scale: *scale,
+                    k: *k,
+                    alpha: *alpha,
+                    reach: *reach,
+                    words,
+                };
+                self.first_hits(&asked, *k)
+            }
             Query::Group { at, scale, words } => {
                 let at = Origin::at(*at, *scale);
-                let chosen = least_group(self.alloc, &self.places, &at, words.as_slice()).map_err(
-                    |_| Memory,
-                )?;
-                Ok(Answer::Group(chosen))
+                self.least_choice(&at, Price::Reach(at), words.as_slice())
+            }
+            Query::Gather { at, scale, words } => {
+                self.least_choice(&Origin::at(*at, *scale), Price::Sum, words.as_slice())
             }
         }
+    }
+
+    // The words with their weights by rarity.
+    fn weighed(&self, words: &[Word]) -> Result<Weights, Memory>
+        requires { IsTerms words.now }
+        ensures weights { IfOk result (λ terms. terms ≡ weighed_by_rarity self.now.places words.now) }
+        ensures sound { IfOk result IsWeights }
+    {
+        let terms = weighed(self.alloc, &self.places, words).map_err(|_| Memory)?;
+        Ok(Weights::from_vec(terms))
+    }
+
+    // The choice of least cost of a place for each word.
+    fn least_choice(&self, at: &Origin, price: Price, words: &[Word]) -> Result<Answer, Memory>
+        requires { length words.now ≤ 8 }
+        ensures { IfOk result (λ answer. answer ≡ answers.Group (least_by (price_of price) (choices self.now.places at.now words.now))) }
+    {
+        let chosen = least_choice(self.alloc, &self.places, at, price, words).map_err(|_| Memory)?;
+        Ok(Answer::Group(chosen))
     }
 
     // All hits of a query, in order.

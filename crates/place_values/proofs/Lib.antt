@@ -1,4 +1,5 @@
 pub mod Ascending
 pub mod Distinct
+pub mod Rarities
 pub mod Rows
 pub mod Serials

@@ -9,13 +9,15 @@ use Rattle.place_values.specs.declared.place.Place.{Place}
 use Rattle.place_values.specs.declared.hit.Hit.{Hit}
 use Rattle.place_values.specs.declared.query.Expr.{Expr}
 use Rattle.place_values.specs.declared.query.Query.{Query}
-use Rattle.place_values.specs.declared.query.Query.TheVariants.{Range, Inside, Nearest, Top, Group}
+use Rattle.place_values.specs.declared.query.Query.TheVariants.{Range, Inside, Nearest, Top, Rare, Group, Gather}
 use Rattle.place_values.specs.declared.query.Answer.{Answer}
 use Rattle.place_values.specs.declared.query.Answer.TheVariants as answers
 use Rattle.place_values.specs.Hit.{comes_before}
 use Rattle.place_values.specs.Filter.{passes}
 use Rattle.place_values.specs.Top.{Weighted, weight_sum, relevance, holds_some, top_cost}
 use Rattle.place_values.specs.Group.{group_of}
+use Rattle.place_values.specs.Rarity.{weighed_by_rarity}
+use Rattle.place_values.specs.Sum.{gathered_of}
 use Rattle.place_values.specs.State.{Contents}
 
 -- the hit of a place whose cost is its distance
@@ -57,13 +59,20 @@ top_hits at alpha reach words entry =
     } ∷ []
     else []
 
--- what a place gives to a query; a group query has no hits
+-- The query as it is asked of the places: the words of a top query by rarity have the weights that these places give them.
+abbrev pub asked_of : Contents → Query → Query
+asked_of state (Rare at scale k alpha reach words) = Top at scale k alpha reach (weighed_by_rarity state.places words)
+asked_of state query = query
+
+-- what a place gives to a query as it is asked of the places; a query that chooses a place for each word has no hits
 abbrev pub hits_of : Query → Name × Place → List Hit
 hits_of (Range at scale radius filter) = range_hits (seen_from at scale) radius filter
 hits_of (Inside rect filter) = box_hits rect filter
 hits_of (Nearest at scale k filter) = near_hits (seen_from at scale) filter
 hits_of (Top at scale k alpha reach words) = top_hits (seen_from at scale) alpha reach words
+hits_of (Rare at scale k alpha reach words) = λ entry. []
 hits_of (Group at scale words) = λ entry. []
+hits_of (Gather at scale words) = λ entry. []
 
 -- the answer to a query over all places: each distance is measured with the query's scale
 abbrev pub answer_of : Contents → Query → Answer
@@ -73,4 +82,7 @@ answer_of state (Inside rect filter) = answers.Hits (ranked comes_before (flat_m
 answer_of state (Nearest at scale k filter) = answers.Hits (first comes_before k (flat_map (near_hits (seen_from at scale) filter) state.places))
 answer_of state (Top at scale k alpha reach words) =
     answers.Hits (first comes_before k (flat_map (top_hits (seen_from at scale) alpha reach words) state.places))
+answer_of state (Rare at scale k alpha reach words) =
+    answers.Hits (first comes_before k (flat_map (top_hits (seen_from at scale) alpha reach (weighed_by_rarity state.places words)) state.places))
 answer_of state (Group at scale words) = answers.Group (group_of state.places (seen_from at scale) words)
+answer_of state (Gather at scale words) = answers.Group (gathered_of state.places (seen_from at scale) words)

@@ -56,22 +56,35 @@ pick_cmp =
     (then_cmp (on (λ (p : Pick). p.dist) nat_cmp)
     (then_cmp (on (λ (p : Pick). p.point.x) int_cmp) (on (λ (p : Pick). p.point.y) int_cmp))))
 
--- by cost, then by the keys in the words' order
-abbrev pub choice_cmp : Viewpoint → List Pick → List Pick → Ordering
-choice_cmp at = then_cmp (on (choice_cost at) nat_cmp) (slice_cmp pick_cmp)
+-- by what choices cost, then by the keys in the words' order
+abbrev pub price_cmp : (List Pick → ℕ) → List Pick → List Pick → Ordering
+price_cmp price = then_cmp (on price nat_cmp) (slice_cmp pick_cmp)
 
 -- a choice comes before another
-abbrev pub is_cheaper : Viewpoint → List Pick → List Pick → Bool
-is_cheaper at a b = is_lt (choice_cmp at a b)
+abbrev pub is_less : (List Pick → ℕ) → List Pick → List Pick → Bool
+is_less price a b = is_lt (price_cmp price a b)
 
--- the first of some choices, with its cost
-abbrev pub head_of : Viewpoint → List (List Pick) → Option Chosen
-head_of at [] = None
-head_of at (picks ∷ others) = Some record { cost = choice_cost at picks; picks = picks }
+-- the first of some choices, with what it costs
+abbrev pub head_by : (List Pick → ℕ) → List (List Pick) → Option Chosen
+head_by price [] = None
+head_by price (picks ∷ others) = Some record { cost = price picks; picks = picks }
 
 -- the least of some choices, where there is one
+abbrev pub least_by : (List Pick → ℕ) → List (List Pick) → Option Chosen
+least_by price choices = head_by price (first (is_less price) 1 choices)
+
+-- the same where a choice costs the distance to its farthest place and its diameter
+abbrev pub choice_cmp : Viewpoint → List Pick → List Pick → Ordering
+choice_cmp at = price_cmp (choice_cost at)
+
+abbrev pub is_cheaper : Viewpoint → List Pick → List Pick → Bool
+is_cheaper at = is_less (choice_cost at)
+
+abbrev pub head_of : Viewpoint → List (List Pick) → Option Chosen
+head_of at = head_by (choice_cost at)
+
 abbrev pub least_of : Viewpoint → List (List Pick) → Option Chosen
-least_of at choices = head_of at (first (is_cheaper at) 1 choices)
+least_of at = least_by (choice_cost at)
 
 -- the answer to a group query: the least of all choices
 abbrev pub group_of : Places → Viewpoint → List (List ℕ) → Option Chosen

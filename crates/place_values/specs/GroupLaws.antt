@@ -20,7 +20,7 @@ use Rattle.place_values.specs.First.{IsLinear, placed, first}
 use Rattle.place_values.specs.Laws.{linear_from_total, first_push}
 use Rattle.place_values.specs.declared.query.Pick.{Pick}
 use Rattle.place_values.specs.declared.query.Chosen.{Chosen}
-use Rattle.place_values.specs.Group.{product, farthest, diameter, choice_cost, pick_cmp, choice_cmp, is_cheaper, head_of, least_of}
+use Rattle.place_values.specs.Group.{product, farthest, diameter, choice_cost, pick_cmp, price_cmp, is_less, head_by, least_by}
 use Rattle.place_values.specs.Search.{lists_in, fronted}
 
 pub pick_cmp_total : IsTotalOrder pick_cmp
@@ -48,55 +48,55 @@ pick_cmp_same x y h =
     λ i. record { key = p i; word = q i; dist = r i; point = record { x = s i; y = t i } }
 
 -- choices have one order
-pub choices_linear : (at : Viewpoint) → IsLinear (is_cheaper at)
-choices_linear at =
+pub choices_linear : (price : List Pick → ℕ) → IsLinear (is_less price)
+choices_linear price =
     linear_from_total
-    (then_total (on_total (choice_cost at) nat_cmp_total) (lists_total pick_cmp_total))
-    (λ a b e. slice_cmp-IsAntisymmetric pick_cmp_same a b (both_tie (nat_cmp (choice_cost at a) (choice_cost at b)) (slice_cmp pick_cmp a b) e).1)
+    (then_total (on_total price nat_cmp_total) (lists_total pick_cmp_total))
+    (λ a b e. slice_cmp-IsAntisymmetric pick_cmp_same a b (both_tie (nat_cmp (price a) (price b)) (slice_cmp pick_cmp a b) e).1)
 
 -- a choice with its cost
-abbrev costed : Viewpoint → List Pick → Chosen
-costed at picks = record { cost = choice_cost at picks; picks = picks }
+abbrev costed : (List Pick → ℕ) → List Pick → Chosen
+costed price picks = record { cost = price picks; picks = picks }
 
 -- the better of a choice and the best so far
-abbrev pub better_of : Viewpoint → List Pick → Option Chosen → Option Chosen
-better_of at picks None = Some (costed at picks)
-better_of at picks (Some best) = cond (is_cheaper at picks best.picks) (Some (costed at picks)) (Some best)
+abbrev pub better_of : (List Pick → ℕ) → List Pick → Option Chosen → Option Chosen
+better_of price picks None = Some (costed price picks)
+better_of price picks (Some best) = cond (is_less price picks best.picks) (Some (costed price picks)) (Some best)
 
-placed_go : (at : Viewpoint) (picks x : List Pick) (a b : Bool) → is_cheaper at x picks ≡ a → is_cheaper at picks x ≡ b → cond a (Some (costed at x)) (Some (costed at picks)) ≡ cond b (Some (costed at picks)) (Some (costed at x))
-placed_go at picks x true true p q = absurd (false≢true (sym ((choices_linear at).one_way x picks p) ∙ q))
-placed_go at picks x true false p q = refl
-placed_go at picks x false true p q = refl
-placed_go at picks x false false p q = ap (λ c. Some (costed at c)) ((choices_linear at).same picks x q p)
+placed_go : (price : List Pick → ℕ) (picks x : List Pick) (a b : Bool) → is_less price x picks ≡ a → is_less price picks x ≡ b → cond a (Some (costed price x)) (Some (costed price picks)) ≡ cond b (Some (costed price picks)) (Some (costed price x))
+placed_go price picks x true true p q = absurd (false≢true (sym ((choices_linear price).one_way x picks p) ∙ q))
+placed_go price picks x true false p q = refl
+placed_go price picks x false true p q = refl
+placed_go price picks x false false p q = ap (λ c. Some (costed price c)) ((choices_linear price).same picks x q p)
 
-head_placed : (at : Viewpoint) (picks : List Pick) (xs : List (List Pick)) → head_of at (take 1 (placed (is_cheaper at) picks xs)) ≡ better_of at picks (head_of at xs)
-head_placed at picks [] = refl
-head_placed at picks (x ∷ xs) = heads (is_cheaper at x picks) refl ∙ placed_go at picks x _ _ refl refl
+head_placed : (price : List Pick → ℕ) (picks : List Pick) (xs : List (List Pick)) → head_by price (take 1 (placed (is_less price) picks xs)) ≡ better_of price picks (head_by price xs)
+head_placed price picks [] = refl
+head_placed price picks (x ∷ xs) = heads (is_less price x picks) refl ∙ placed_go price picks x _ _ refl refl
   where
-    heads : (a : Bool) → is_cheaper at x picks ≡ a → head_of at (take 1 (placed (is_cheaper at) picks (x ∷ xs))) ≡ cond (is_cheaper at x picks) (Some (costed at x)) (Some (costed at picks))
+    heads : (a : Bool) → is_less price x picks ≡ a → head_by price (take 1 (placed (is_less price) picks (x ∷ xs))) ≡ cond (is_less price x picks) (Some (costed price x)) (Some (costed price picks))
     heads true p = rw p refl
     heads false p = rw p refl
 
 -- one more choice
-pub least_push : (at : Viewpoint) (tried : List (List Pick)) (picks : List Pick) → least_of at (tried ++ picks ∷ []) ≡ better_of at picks (least_of at tried)
-least_push at tried picks =
-    ap (head_of at) (first_push (choices_linear at) 1 tried picks) ∙ head_placed at picks (first (is_cheaper at) 1 tried)
+pub least_push : (price : List Pick → ℕ) (tried : List (List Pick)) (picks : List Pick) → least_by price (tried ++ picks ∷ []) ≡ better_of price picks (least_by price tried)
+least_push price tried picks =
+    ap (head_by price) (first_push (choices_linear price) 1 tried picks) ∙ head_placed price picks (first (is_less price) 1 tried)
 
 -- choices that aren't better change nothing
-pub least_kept : (at : Viewpoint) (tried more : List (List Pick)) (best : Chosen) → least_of at tried ≡ Some best → AllByRecursion (λ picks. is_cheaper at picks best.picks ≡ false) more → least_of at (tried ++ more) ≡ Some best
-least_kept at tried [] best is h = ap (least_of at) (append-nil tried) ∙ is
-least_kept at tried (picks ∷ more) best is h =
-    let pushed : least_of at (tried ++ picks ∷ []) ≡ Some best =
-    least_push at tried picks ∙ ap (better_of at picks) is ∙ rw h.0 refl in
-    ap (least_of at) (sym (append_assoc tried (picks ∷ []) more)) ∙ least_kept at (tried ++ picks ∷ []) more best pushed h.1
+pub least_kept : (price : List Pick → ℕ) (tried more : List (List Pick)) (best : Chosen) → least_by price tried ≡ Some best → AllByRecursion (λ picks. is_less price picks best.picks ≡ false) more → least_by price (tried ++ more) ≡ Some best
+least_kept price tried [] best is h = ap (least_by price) (append-nil tried) ∙ is
+least_kept price tried (picks ∷ more) best is h =
+    let pushed : least_by price (tried ++ picks ∷ []) ≡ Some best =
+    least_push price tried picks ∙ ap (better_of price picks) is ∙ rw h.0 refl in
+    ap (least_by price) (sym (append_assoc tried (picks ∷ []) more)) ∙ least_kept price (tried ++ picks ∷ []) more best pushed h.1
 
 -- the least choice has its own cost
-pub least_cost : (at : Viewpoint) (tried : List (List Pick)) (best : Chosen) → least_of at tried ≡ Some best → best.cost ≡ choice_cost at best.picks
-least_cost at tried best is = head_cost (first (is_cheaper at) 1 tried) is
+pub least_cost : (price : List Pick → ℕ) (tried : List (List Pick)) (best : Chosen) → least_by price tried ≡ Some best → best.cost ≡ price best.picks
+least_cost price tried best is = head_cost (first (is_less price) 1 tried) is
   where
-    head_cost : (xs : List (List Pick)) → head_of at xs ≡ Some best → best.cost ≡ choice_cost at best.picks
+    head_cost : (xs : List (List Pick)) → head_by price xs ≡ Some best → best.cost ≡ price best.picks
     head_cost [] e = absurd (cc)
-    head_cost (x ∷ xs) e = let same : costed at x ≡ best = cc in subst (λ (c : Chosen). c.cost ≡ choice_cost at c.picks) same refl
+    head_cost (x ∷ xs) e = let same : costed price x ≡ best = cc in subst (λ (c : Chosen). c.cost ≡ price c.picks) same refl
 
 most_from : (f : Pick → ℕ) (a : ℕ) (xs : List Pick) → fold (λ m p. max m (f p)) a xs ≡ max a (fold (λ m p. max m (f p)) 0 xs)
 most_from f a [] = omega arith
@@ -108,6 +108,10 @@ farthest_front from xs ys = omega (arith, fold-append (λ m (p : Pick). max m (d
 diameter_front : (scale : ℕ) (xs ys : List Pick) → diameter scale xs ≤ diameter scale (xs ++ ys)
 diameter_front scale [] ys = omega arith
 diameter_front scale (x ∷ xs) ys = omega (arith, farthest_front (seen_from x.point scale) xs ys, diameter_front scale xs ys)
+
+-- what goes on from a front never costs less
+abbrev pub IsRising : (List Pick → ℕ) → Type 0
+IsRising price = (xs ys : List Pick) → price xs ≤ price (xs ++ ys)
 
 -- a front never costs more than a choice that completes it
 pub cost_front : (at : Viewpoint) (xs ys : List Pick) → choice_cost at xs ≤ choice_cost at (xs ++ ys)
@@ -134,14 +138,14 @@ cost_go m n c k l Greater Equal le e f h g = absurd (let a = ranked m c Greater 
 cost_go m n c k l Greater Less le e f h g = absurd (let a = ranked m c Greater e in let b = ranked n c Less f in omega arith)
 
 -- what completes a front that comes after a choice isn't cheaper than that choice
-pub front_hopeless : (at : Viewpoint) (front rest best : List Pick) → choice_cmp at front best ≡ Greater → is_cheaper at (front ++ rest) best ≡ false
-front_hopeless at front rest best h =
-    cost_go (choice_cost at front) (choice_cost at (front ++ rest)) (choice_cost at best) (slice_cmp pick_cmp front best) (slice_cmp pick_cmp (front ++ rest) best) _ _ (cost_front at front rest) refl refl h (list_greater front rest best)
+pub front_hopeless : (price : List Pick → ℕ) → IsRising price → (front rest best : List Pick) → price_cmp price front best ≡ Greater → is_less price (front ++ rest) best ≡ false
+front_hopeless price rises front rest best h =
+    cost_go (price front) (price (front ++ rest)) (price best) (slice_cmp pick_cmp front best) (slice_cmp pick_cmp (front ++ rest) best) _ _ (rises front rest) refl refl h (list_greater front rest best)
 
 -- the same for all that complete it
-pub all_hopeless : (at : Viewpoint) (front best : List Pick) (lists : List (List Pick)) → choice_cmp at front best ≡ Greater → AllByRecursion (λ picks. is_cheaper at picks best ≡ false) (fronted front lists)
-all_hopeless at front best [] h = tt
-all_hopeless at front best (rest ∷ lists) h = (front_hopeless at front rest best h, all_hopeless at front best lists h)
+pub all_hopeless : (price : List Pick → ℕ) → IsRising price → (front best : List Pick) (lists : List (List Pick)) → price_cmp price front best ≡ Greater → AllByRecursion (λ picks. is_less price picks best ≡ false) (fronted front lists)
+all_hopeless price rises front best [] h = tt
+all_hopeless price rises front best (rest ∷ lists) h = (front_hopeless price rises front rest best h, all_hopeless price rises front best lists h)
 
 fronted_cons : (front : List Pick) (x : Pick) (lists : List (List Pick)) → fronted front (map (λ others. x ∷ others) lists) ≡ fronted (front ++ x ∷ []) lists
 fronted_cons front x [] = refl
@@ -166,34 +170,34 @@ is_greater Less h = absurd (cc)
 is_greater Equal h = absurd (cc)
 
 -- comparing a choice's cost and picks with the least one's compares the choices
-compared : (at : Viewpoint) (tried : List (List Pick)) (picks : List Pick) (cost : ℕ) (best : Chosen) → least_of at tried ≡ Some best → cost ≡ choice_cost at picks → ordering_then (nat_cmp cost best.cost) (slice_cmp pick_cmp picks best.picks) ≡ choice_cmp at picks best.picks
-compared at tried picks cost best is costs =
+compared : (price : List Pick → ℕ) (tried : List (List Pick)) (picks : List Pick) (cost : ℕ) (best : Chosen) → least_by price tried ≡ Some best → cost ≡ price picks → ordering_then (nat_cmp cost best.cost) (slice_cmp pick_cmp picks best.picks) ≡ price_cmp price picks best.picks
+compared price tried picks cost best is costs =
     ap (λ n. ordering_then (nat_cmp n best.cost) (slice_cmp pick_cmp picks best.picks)) costs
-    ∙ ap (λ n. ordering_then (nat_cmp (choice_cost at picks) n) (slice_cmp pick_cmp picks best.picks)) (least_cost at tried best is)
+    ∙ ap (λ n. ordering_then (nat_cmp (price picks) n) (slice_cmp pick_cmp picks best.picks)) (least_cost price tried best is)
 
 -- a front that comes after the least choice: what completes it changes nothing
-pub hopeless_kept : (at : Viewpoint) (front : List Pick) (cost : ℕ) (least : Option Chosen) (best : Chosen) (o : Ordering) (tried rest : List (List Pick)) → least ≡ Some best → o ≡ ordering_then (nat_cmp cost best.cost) (slice_cmp pick_cmp front best.picks) → is_gt o ≡ true → cost ≡ choice_cost at front → least ≡ least_of at tried → least ≡ least_of at (tried ++ fronted front rest)
-hopeless_kept at front cost least best o tried rest is compares gt costs was =
-    let known : least_of at tried ≡ Some best = sym was ∙ is in
-    let after : choice_cmp at front best.picks ≡ Greater = sym (compared at tried front cost best known costs) ∙ sym compares ∙ is_greater o gt in
-    is ∙ sym (least_kept at tried (fronted front rest) best known (all_hopeless at front best.picks rest after))
+pub hopeless_kept : (price : List Pick → ℕ) → IsRising price → (front : List Pick) (cost : ℕ) (least : Option Chosen) (best : Chosen) (o : Ordering) (tried rest : List (List Pick)) → least ≡ Some best → o ≡ ordering_then (nat_cmp cost best.cost) (slice_cmp pick_cmp front best.picks) → is_gt o ≡ true → cost ≡ price front → least ≡ least_by price tried → least ≡ least_by price (tried ++ fronted front rest)
+hopeless_kept price rises front cost least best o tried rest is compares gt costs was =
+    let known : least_by price tried ≡ Some best = sym was ∙ is in
+    let after : price_cmp price front best.picks ≡ Greater = sym (compared price tried front cost best known costs) ∙ sym compares ∙ is_greater o gt in
+    is ∙ sym (least_kept price tried (fronted front rest) best known (all_hopeless price rises front best.picks rest after))
 
 -- a choice of this cost
 abbrev pub with_cost : ℕ → List Pick → Option Chosen
 with_cost cost picks = Some record { cost = cost; picks = picks }
 
 -- the first choice is the least
-pub pushed_first : (at : Viewpoint) (picks : List Pick) (cost : ℕ) (least : Option Chosen) (tried : List (List Pick)) → least ≡ None → cost ≡ choice_cost at picks → least ≡ least_of at tried → least_of at (tried ++ picks ∷ []) ≡ with_cost cost picks
-pushed_first at picks cost least tried is costs was =
-    least_push at tried picks ∙ ap (better_of at picks) (sym was ∙ is) ∙ ap (λ n. with_cost n picks) (sym costs)
+pub pushed_first : (price : List Pick → ℕ) (picks : List Pick) (cost : ℕ) (least : Option Chosen) (tried : List (List Pick)) → least ≡ None → cost ≡ price picks → least ≡ least_by price tried → least_by price (tried ++ picks ∷ []) ≡ with_cost cost picks
+pushed_first price picks cost least tried is costs was =
+    least_push price tried picks ∙ ap (better_of price picks) (sym was ∙ is) ∙ ap (λ n. with_cost n picks) (sym costs)
 
 -- another is it where it comes before the least so far
-pub pushed_next : (at : Viewpoint) (picks : List Pick) (cost : ℕ) (least : Option Chosen) (best : Chosen) (o : Ordering) (tried : List (List Pick)) → least ≡ Some best → o ≡ ordering_then (nat_cmp cost best.cost) (slice_cmp pick_cmp picks best.picks) → cost ≡ choice_cost at picks → least ≡ least_of at tried → least_of at (tried ++ picks ∷ []) ≡ cond (is_lt o) (with_cost cost picks) least
-pushed_next at picks cost least best o tried is compares costs was =
-    let known : least_of at tried ≡ Some best = sym was ∙ is in
-    let cheaper : is_cheaper at picks best.picks ≡ is_lt o = ap is_lt (sym (compared at tried picks cost best known costs) ∙ sym compares) in
-    least_push at tried picks ∙ ap (better_of at picks) known
-    ∙ ap (λ t. cond t (Some (costed at picks)) (Some best)) cheaper
+pub pushed_next : (price : List Pick → ℕ) (picks : List Pick) (cost : ℕ) (least : Option Chosen) (best : Chosen) (o : Ordering) (tried : List (List Pick)) → least ≡ Some best → o ≡ ordering_then (nat_cmp cost best.cost) (slice_cmp pick_cmp picks best.picks) → cost ≡ price picks → least ≡ least_by price tried → least_by price (tried ++ picks ∷ []) ≡ cond (is_lt o) (with_cost cost picks) least
+pushed_next price picks cost least best o tried is compares costs was =
+    let known : least_by price tried ≡ Some best = sym was ∙ is in
+    let cheaper : is_less price picks best.picks ≡ is_lt o = ap is_lt (sym (compared price tried picks cost best known costs) ∙ sym compares) in
+    least_push price tried picks ∙ ap (better_of price picks) known
+    ∙ ap (λ t. cond t (Some (costed price picks)) (Some best)) cheaper
     ∙ ap (λ n. cond (is_lt o) (with_cost n picks) (Some best)) (sym costs)
     ∙ ap (λ l. cond (is_lt o) (with_cost cost picks) l) (sym is)
 
@@ -202,24 +206,24 @@ abbrev pub gone_on : List Pick → List (List Pick) → List Pick → List (List
 gone_on front others picks = flat_map (λ pick. fronted (front ++ pick ∷ []) (product others)) picks
 
 -- one more pick tried
-pub tried_more : (at : Viewpoint) (tried : List (List Pick)) (front longer : List Pick) (others : List (List Pick)) (picks : List Pick) (i : ℕ) (d : Pick) (least : Option Chosen) → i < length picks → longer ≡ front ++ get_or picks i d ∷ [] → least ≡ least_of at ((tried ++ gone_on front others (take i picks)) ++ fronted longer (product others)) → least ≡ least_of at (tried ++ gone_on front others (take (i + 1) picks))
-tried_more at tried front longer others picks i d least below is was =
+pub tried_more : (price : List Pick → ℕ) (tried : List (List Pick)) (front longer : List Pick) (others : List (List Pick)) (picks : List Pick) (i : ℕ) (d : Pick) (least : Option Chosen) → i < length picks → longer ≡ front ++ get_or picks i d ∷ [] → least ≡ least_by price ((tried ++ gone_on front others (take i picks)) ++ fronted longer (product others)) → least ≡ least_by price (tried ++ gone_on front others (take (i + 1) picks))
+tried_more price tried front longer others picks i d least below is was =
     let here : List (List Pick) = fronted (front ++ get_or picks i d ∷ []) (product others) in
     let more : gone_on front others (take (i + 1) picks) ≡ gone_on front others (take i picks) ++ here =
     ap (gone_on front others) (take_more picks i d below)
     ∙ flat_map-append (λ pick. fronted (front ++ pick ∷ []) (product others)) (take i picks) (get_or picks i d ∷ [])
     ∙ ap (λ l. gone_on front others (take i picks) ++ l) (append-nil here) in
     was
-    ∙ ap (λ f. least_of at ((tried ++ gone_on front others (take i picks)) ++ fronted f (product others))) is
-    ∙ ap (least_of at) (append_assoc tried (gone_on front others (take i picks)) here ∙ ap (λ l. tried ++ l) (sym more))
+    ∙ ap (λ f. least_by price ((tried ++ gone_on front others (take i picks)) ++ fronted f (product others))) is
+    ∙ ap (least_by price) (append_assoc tried (gone_on front others (take i picks)) here ∙ ap (λ l. tried ++ l) (sym more))
 
 -- all picks tried
-pub all_tried : (at : Viewpoint) (tried : List (List Pick)) (front : List Pick) (lists : List (Vec Pick Global)) (list : Vec Pick Global) (others : List (Vec Pick Global)) (picks : List Pick) (n : ℕ) (least : Option Chosen) → lists ≡ list ∷ others → picks ≡ list.items → length picks ≤ n → least ≡ least_of at (tried ++ gone_on front (lists_in others) (take n picks)) → least ≡ least_of at (tried ++ fronted front (product (lists_in lists)))
-all_tried at tried front lists list others picks n least is same all was =
+pub all_tried : (price : List Pick → ℕ) (tried : List (List Pick)) (front : List Pick) (lists : List (Vec Pick Global)) (list : Vec Pick Global) (others : List (Vec Pick Global)) (picks : List Pick) (n : ℕ) (least : Option Chosen) → lists ≡ list ∷ others → picks ≡ list.items → length picks ≤ n → least ≡ least_by price (tried ++ gone_on front (lists_in others) (take n picks)) → least ≡ least_by price (tried ++ fronted front (product (lists_in lists)))
+all_tried price tried front lists list others picks n least is same all was =
     was
-    ∙ ap (λ l. least_of at (tried ++ gone_on front (lists_in others) l)) (take_all n picks all ∙ same)
-    ∙ ap (λ l. least_of at (tried ++ l)) (sym (fronted_product front list.items (lists_in others)))
-    ∙ ap (λ l. least_of at (tried ++ fronted front (product (lists_in l)))) (sym is)
+    ∙ ap (λ l. least_by price (tried ++ gone_on front (lists_in others) l)) (take_all n picks all ∙ same)
+    ∙ ap (λ l. least_by price (tried ++ l)) (sym (fronted_product front list.items (lists_in others)))
+    ∙ ap (λ l. least_by price (tried ++ fronted front (product (lists_in l)))) (sym is)
 
 -- a pick is taken back
 pub popped : (n : ℕ) (old new front : List Pick) (x : Pick) → n ≡ length old → new ≡ take (n - 1) old → old ≡ front ++ x ∷ [] → new ≡ front

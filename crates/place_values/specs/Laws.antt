@@ -1,5 +1,5 @@
 -- What is known of the first of a list.
-use Rattle.std.proofs.Common.{◌≡◌, ℕ, suc, zero, ◌+◌, ◌-◌, ◌<◌, ◌≤◌, Bool, true, false, cond, List, [], ◌∷◌, ◌++◌, take, length, get_or, refl, sym, ap, ◌∙◌, arith, ◌⊎◌, ⊎_elim}
+use Rattle.std.proofs.Common.{◌≡◌, ℕ, suc, zero, ◌-◌, ◌<◌, ◌≤◌, Bool, true, false, cond, List, [], ◌∷◌, ◌++◌, take, length, get_or, refl, sym, ap, ◌∙◌, arith, ◌⊎◌, ⊎_elim}
 use Rattle.std.specs.List.{AllByRecursion, insert}
 use Rattle.std.proofs.lemmas.Bool.{cases_Bool, cases_order, false≢true, cond_both}
 use Rattle.std.proofs.lemmas.List.{append-nil}

@@ -3,6 +3,10 @@ pub mod Filter
 pub mod Forms
 pub mod Group
 pub mod GroupLaws
+pub mod Sum
+pub mod SumLaws
+pub mod Rarity
+pub mod RarityLaws
 pub mod Hit
 pub mod Limits
 pub mod Query

@@ -3,7 +3,7 @@ use Rattle.std.specs.Prelude.{ℕ, ◌≤◌, ◌^◌, List, length, map, All}
 use Rattle.std.specs.List.{IsDistinct}
 use Rattle.std.specs.Str.{bytes_eq}
 use Rattle.place_values.specs.declared.query.Query.{Query}
-use Rattle.place_values.specs.declared.query.Query.TheVariants.{Range, Inside, Nearest, Top, Group}
+use Rattle.place_values.specs.declared.query.Query.TheVariants.{Range, Inside, Nearest, Top, Rare, Group, Gather}
 use Rattle.place_values.specs.Limits.{IsFilter}
 
 -- how many hits may be asked for
@@ -39,4 +39,6 @@ IsWithinLimits (Range at scale radius filter) = (scale ≤ 1000) × (radius ≤ 
 IsWithinLimits (Inside rect filter) = IsFilter filter
 IsWithinLimits (Nearest at scale k filter) = (scale ≤ 1000) × IsCount k × IsFilter filter
 IsWithinLimits (Top at scale k alpha reach words) = (scale ≤ 1000) × IsCount k × IsBlend alpha reach × IsWeights words
+IsWithinLimits (Rare at scale k alpha reach words) = (scale ≤ 1000) × IsCount k × IsBlend alpha reach × IsTerms words
 IsWithinLimits (Group at scale words) = (scale ≤ 1000) × IsTerms words
+IsWithinLimits (Gather at scale words) = (scale ≤ 1000) × IsTerms words

@@ -1,8 +1,11 @@
 // What a choice of picks costs, and which of two choices comes first.
-ghost use Rattle.std.specs.Prelude.{◌≡◌, ◌≤◌};
+ghost use Rattle.std.specs.Prelude.{◌≡◌, ◌≤◌, length};
 ghost use Rattle.std.specs.Cmp.Lexicographic.{slice_cmp};
+ghost use Rattle.std.specs.List.{AllByRecursion};
 ghost use Rattle.std.specs.Ordering.{nat_cmp, ordering_then};
 ghost use Rattle.place_values.specs.Group.{farthest, diameter, choice_cost, pick_cmp};
+ghost use Rattle.place_values.specs.Sum.{sum_cost};
+ghost use Rattle.place_values.specs.SumLaws.{has_place_of};
 
 use crate::{Chosen, Pick};
 use spatial_base::Origin;
@@ -41,6 +44,29 @@ pub fn cost_of_choice(at: &Origin, picks: &[Pick]) -> u64
     ensures far { result ≤ 5091168824 }
 {
     farthest_of(at, picks) + diameter_of(picks, at.scale())
+}
+
+// Whether one of some picks is of this pick's place.
+fn has_place(picks: &[Pick], pick: &Pick) -> bool
+    ensures { result ≡ has_place_of picks.now pick.now }
+{
+    picks.iter().any(|other| other.key == pick.key)
+}
+
+/// Returns the sum of the distances to the places of some picks, in degrees times 10^7. A place of several picks counts once.
+pub fn sum_of_choice(picks: &[Pick]) -> u64
+    requires few { length picks.now ≤ 8 }
+    requires near { AllByRecursion (λ (pick : Pick). pick.dist ≤ 2545584412) picks.now }
+    ensures value { result ≡ sum_cost picks.now }
+    ensures far { result ≤ 20364675296 }
+{
+    let mut sum = 0;
+    for (i, pick) in picks.iter().enumerate() {
+        if !has_place(&picks[..i], pick) {
+            sum += pick.dist;
+        }
+    }
+    sum
 }
 
 /// Returns the order of a choice of this cost and another one: by cost, and then by the picks, in the words' order.

@@ -14,11 +14,12 @@ mod limits;
 mod listed;
 mod place;
 mod query;
+mod rare;
 mod top;
 mod update;
 
 pub use best::keep;
-pub use choice::{choice_order, cost_of_choice, farthest_of};
+pub use choice::{choice_order, cost_of_choice, farthest_of, sum_of_choice};
 pub use hit::{Hit, Hits, is_before};
 pub use limits::{
     ALPHA_MAX, COUNT_MAX, EXPR_LEVELS_MAX, EXPR_WORDS_MAX, NUMBER_MAX, PLACES_MAX, RADIUS_MAX,
@@ -27,5 +28,6 @@ pub use limits::{
 pub use listed::Listed;
 pub use place::Place;
 pub use query::{Answer, Chosen, Expr, Pick, Picks, Query, Terms, Weights};
+pub use rare::rarity;
 pub use top::{cost_of, has_some, relevance_of, sum_of_weights};
 pub use update::{Applied, Update, UpdateFault};

@@ -154,7 +154,7 @@ fn are_distinct(words: &[Word]) -> bool
     }
 }
 
-// Whether a group query may have these words.
+// Whether a query that gives no weights may have these words.
 fn are_terms(words: &[Word]) -> bool
     ensures { IsTrue result ↔ IsTerms words.now }
 {
@@ -239,7 +239,20 @@ impl Query {
                     && is_blend(*alpha, *reach)
                     && are_weights(words.as_slice())
             }
-            Query::Group { scale, words, .. } => {
+            Query::Rare {
+                scale,
+                k,
+                alpha,
+                reach,
+                words,
+                ..
+            } => {
+                *scale <= SCALE_MAX
+                    && is_count(*k)
+                    && is_blend(*alpha, *reach)
+                    && are_terms(words.as_slice())
+            }
+            Query::Group { scale, words, .. } | Query::Gather { scale, words, .. } => {
                 *scale <= SCALE_MAX && are_terms(words.as_slice())
             }
         }

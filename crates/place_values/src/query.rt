@@ -69,6 +69,24 @@ pub enum Query {
         /// One to 8 distinct words, with weights of 1 to 20.
         words: Weights,
     },
+    /// The same with weights by rarity: a word that few live places hold counts more than one that many hold.
+    ///
+    /// The weight is 1 if no place holds the word. Else it is one more than the number of times, at most 19, that the number of places
+    /// that hold it can double and still be no more than all live places: a word on every place has 1, one on half of them has 2.
+    Rare {
+        /// The point that distances are measured from.
+        at: Point,
+        /// How many thousandths of its size a step of longitude counts in a distance: 0 to 1000.
+        scale: u16,
+        /// The most hits in the answer, 1 to 1000.
+        k: u16,
+        /// How much the distance counts against the words, in thousandths: 0 to 1000.
+        alpha: u16,
+        /// The distance that counts as much as all the words, in degrees times 10^7: 1 to 4,024,922,359.
+        reach: u64,
+        /// One to 8 distinct words.
+        words: Terms,
+    },
     /// A place for each word, so that the places are near a point and near each other.
     Group {
         /// The point that distances are measured from.
@@ -78,9 +96,19 @@ pub enum Query {
         /// One to 8 distinct words.
         words: Terms,
     },
+    /// A place for each word, so that the distances from a point to the places are least in sum. A place that serves several words counts
+    /// once.
+    Gather {
+        /// The point that distances are measured from.
+        at: Point,
+        /// How many thousandths of its size a step of longitude counts in a distance: 0 to 1000.
+        scale: u16,
+        /// One to 8 distinct words.
+        words: Terms,
+    },
 }
 
-/// The place chosen for a word in the answer to a group query.
+/// The place chosen for a word in the answer to a group or gather query.
 ///
 /// Picks are ordered by key first. Two picks for the same word and the same key are the same.
 #[derive(Clone, Copy, Debug, PartialEq, Eq, PartialOrd, Ord)]
@@ -98,10 +126,11 @@ pub struct Pick {
 /// Picks, which contracts see as a list.
 pub type Picks = Listed<Pick>;
 
-/// A place for each word of a group query.
+/// A place for each word of a group or gather query.
 #[derive(Drop)]
 pub struct Chosen {
-    /// The greatest distance to the query's point plus the greatest distance between two of the places, in degrees times 10^7.
+    /// What the choice costs, in degrees times 10^7. For a group query it is the greatest distance to the query's point plus the greatest
+    /// distance between two of the places, for a gather query the sum of the distances to its distinct places.
     pub cost: u64,
     /// The places, in the order of the query's words.
     pub picks: Picks,
@@ -110,8 +139,8 @@ pub struct Chosen {
 /// The answer to a query.
 #[derive(Drop)]
 pub enum Answer {
-    /// The hits, in order, of any query except a group query.
+    /// The hits, in order, of a range, box, nearest or top query, or one by rarity.
     Hits(Hits),
-    /// The choice of a group query, or `None` if some word has no place.
+    /// The choice of a group or gather query, or `None` if some word has no place.
     Group(Option<Chosen>),
 }

@@ -1,5 +1,8 @@
 -- What tables and a tree keep that stand for a state.
-use Rattle.std.proofs.Common.{◌≡◌, ℕ, subst}
+use Rattle.std.proofs.Common.{◌≡◌, ℕ, length, sym, ap, subst, ◌∙◌}
+use Rattle.std.proofs.lemmas.List.{length-map}
+use Rattle.spatial_base.specs.Key.{Name}
+use Rattle.row_codec.specs.declared.stored.Stored.{Stored}
 use Rattle.page_face.specs.FreeList.{PageMap}
 use Rattle.btree_nodes.specs.Supply as supply
 use Rattle.paged_map.specs.Maps.{AreCounted}
@@ -16,7 +19,7 @@ use Rattle.store_tables.specs.Entries.{Entries}
 use Rattle.store_tables.specs.Holding.{Holds, table_uses}
 use Rattle.store_tables.specs.Words.{WordsAgree}
 use Rattle.store_tables.proofs.ToldLemmas.{apart-counted}
-use Rattle.store_model.specs.Stands.{PagesStand, entry_sum, state_in, tables_in}
+use Rattle.store_model.specs.Stands.{PagesStand, entry_sum, place_in, places_in, state_in, tables_in}
 use Rattle.store_model.proofs.Trees.{whole-in}
 use Rattle.query_execution.specs.Standing.{RootsStand, tree_of}
 
@@ -55,3 +58,16 @@ roots-kept pages count first tables tree state roots =
     (subst (λ (t : Tables). AreKept pages roots.block.counted roots.block.first_free t tree state) roots.tables_are
     (subst (λ (t : Tree). AreKept pages roots.block.counted roots.block.first_free (tables_in roots.block.head) t state) roots.tree_is
     (block-kept roots.block pages state roots.stand))))
+
+-- as many places live as the entries list
+pub state-places : (entries : Entries) → length (places_in entries) ≡ length entries.places
+state-places entries = length-map entries.places (λ (e : Name × Stored). (e.0, place_in entries.numbers e.1))
+
+-- so many as the entries list
+pub kept-live : (pages : PageMap) (count first : ℕ) (tables : Tables) (tree : Tree) (state : Contents) → (kept : AreKept pages count first tables tree state)
+    → (live : ℕ) → live ≡ length state.places → live ≡ length kept.entries.places
+kept-live pages count first tables tree state kept live are = are ∙ ap (λ (s : Contents). length s.places) kept.is ∙ state-places kept.entries
+
+-- page 0's count of live places is that of the state
+pub stand-live : (block : Superblock) (pages : PageMap) (state : Contents) → PagesStand block pages state → block.head.live ≡ length state.places
+stand-live block pages state stand = stand.tables.live ∙ sym (state-places stand.entries) ∙ ap (λ (s : Contents). length s.places) (sym stand.is)

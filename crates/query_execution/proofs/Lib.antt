@@ -2,6 +2,8 @@ pub mod Lookups
 pub mod Impacts
 pub mod Words
 pub mod Kept
+pub mod Holders
 pub mod Members
 pub mod Opened
 pub mod Choices
+pub mod Named

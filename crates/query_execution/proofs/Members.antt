@@ -10,10 +10,12 @@ use Rattle.place_values.specs.Members.{SameMembers, ranked_same}
 use Rattle.best_first.specs.Lists.{flat_map_same}
 use Rattle.place_values.specs.declared.hit.Hit.{Hit}
 use Rattle.place_values.specs.declared.query.Query.{Query}
-use Rattle.place_values.specs.declared.query.Query.TheVariants.{Range, Inside, Nearest, Top, Group}
+use Rattle.place_values.specs.declared.query.Query.TheVariants.{Range, Inside, Nearest, Top, Rare, Group, Gather}
 use Rattle.place_values.specs.declared.query.Answer.TheVariants as answers
-use Rattle.place_values.specs.Answer.{answer_of, hits_of}
+use Rattle.place_values.specs.Answer.{answer_of, asked_of, hits_of}
 use Rattle.place_values.specs.Hit.{comes_before, hits_linear}
+use Rattle.place_values.specs.Rarity.{weighed_by_rarity}
+use Rattle.place_values.specs.RarityLaws.{words_weighed}
 use Rattle.place_values.specs.State.{Contents}
 use Rattle.row_codec.specs.declared.stored.Stored.{Stored}
 use Rattle.row_codec.specs.Stored.{held_pairs}
@@ -85,7 +87,9 @@ module _ (ids : Numbers) (entries : Entries) (next_word : ℕ) (agree : WordsAgr
   gives-same (Top at scale k alpha reach words) known e is =
       top-agrees ids (impact_in (held_pairs e.1)) e.0 (place_in entries.numbers e.1) is.0 is.1.0.point (seen_from at scale) alpha reach words
       (agree-weighed (impact_of ids (item_at e)) (texts.impact_in (words_of_place entries.numbers e.1)) words (impacts-agree _ known e is))
+  gives-same (Rare at scale k alpha reach words) known e is = refl
   gives-same (Group at scale words) known e is = refl
+  gives-same (Gather at scale words) known e is = refl
 
   -- so the tree's entries, ranked, are the places, ranked
   ranked-same : (nodes : NodeMap) (root : ℕ) → ((f : Item → ℕ) → tree_sum nodes root f ≡ entry_sum f entries.places) → All IsPlaceEntry entries.places
@@ -94,24 +98,30 @@ module _ (ids : Numbers) (entries : Entries) (next_word : ℕ) (agree : WordsAgr
       ranked_same hits_linear (flat_map (hits_by ids query) (map item_at entries.places)) (flat_map (hits_by ids query) (tree_places nodes root)) (flat_map_same (hits_by ids query) (map item_at entries.places) (tree_places nodes root) (same-entries nodes root entries.places are))
       ∙ ap (ranked comes_before) (given-same item_at (λ (e : Name × Stored). (e.0, place_in entries.numbers e.1)) (hits_by ids query) (hits_of query) IsPlaceEntry (gives-same query known) entries.places each)
 
-  -- and the hits of the tree's entries are the answer to the query over the places
+  -- and the hits of the tree's entries to the query as it is asked of the places are the answer to it over these
   pub hits-answer : (nodes : NodeMap) (root serial number : ℕ) → ((f : Item → ℕ) → tree_sum nodes root f ≡ entry_sum f entries.places) → All IsPlaceEntry entries.places
-      → (query : Query) → AreKnown ids entries.texts (asked_in query) → IsAnswer query (answer_of (state_in entries serial number) query) (cut_by query (flat_map (hits_by ids query) (tree_places nodes root)))
-  hits-answer nodes root serial number are each query known = by_kind query (ranked-same nodes root are each query known)
-    where
-      by_kind : (query : Query) → ranked comes_before (flat_map (hits_by ids query) (tree_places nodes root)) ≡ ranked comes_before (flat_map (hits_of query) (places_in entries))
-          → IsAnswer query (answer_of (state_in entries serial number) query) (cut_by query (flat_map (hits_by ids query) (tree_places nodes root)))
-      by_kind (Range at scale radius filter) same = ap answers.Hits (sym same)
-      by_kind (Inside rect filter) same = ap answers.Hits (sym same)
-      by_kind (Nearest at scale k filter) same = ap (λ hits. answers.Hits (take k hits)) (sym same)
-      by_kind (Top at scale k alpha reach words) same = ap (λ hits. answers.Hits (take k hits)) (sym same)
-      by_kind (Group at scale words) same = no-hits (tree_places nodes root)
+      → (query : Query) → AreKnown ids entries.texts (asked_in query)
+      → IsAnswer query (answer_of (state_in entries serial number) query) (cut_by (asked_of (state_in entries serial number) query) (flat_map (hits_by ids (asked_of (state_in entries serial number) query)) (tree_places nodes root)))
+  hits-answer nodes root serial number are each (Range at scale radius filter) known = ap answers.Hits (sym (ranked-same nodes root are each (Range at scale radius filter) known))
+  hits-answer nodes root serial number are each (Inside rect filter) known = ap answers.Hits (sym (ranked-same nodes root are each (Inside rect filter) known))
+  hits-answer nodes root serial number are each (Nearest at scale k filter) known = ap (λ hits. answers.Hits (take k hits)) (sym (ranked-same nodes root are each (Nearest at scale k filter) known))
+  hits-answer nodes root serial number are each (Top at scale k alpha reach words) known = ap (λ hits. answers.Hits (take k hits)) (sym (ranked-same nodes root are each (Top at scale k alpha reach words) known))
+  hits-answer nodes root serial number are each (Rare at scale k alpha reach words) known =
+      ap (λ hits. answers.Hits (take k hits))
+      (sym (ranked-same nodes root are each (Top at scale k alpha reach (weighed_by_rarity (places_in entries) words)) (subst (AreKnown ids entries.texts) (sym (words_weighed (places_in entries) words)) known)))
+  hits-answer nodes root serial number are each (Group at scale words) known = no-hits (tree_places nodes root)
+  hits-answer nodes root serial number are each (Gather at scale words) known = no-hits (tree_places nodes root)
 
 -- so it is over pages that keep the entries
 pub kept-answer : (pages : PageMap) (count first : ℕ) (tables : Tables) (tree : Tree) (state : Contents) → (kept : AreKept pages count first tables tree state)
-    → (ids : Numbers) (query : Query) → AreKnown ids kept.entries.texts (asked_in query) → (hits : List Hit) → hits ≡ cut_by query (flat_map (hits_by ids query) (tree_places (nodes_in node_of pages tree.rows) tree.root))
+    → (ids : Numbers) (query asked : Query) → AreKnown ids kept.entries.texts (asked_in query) → asked ≡ asked_of (state_in kept.entries kept.serial kept.number) query
+    → (hits : List Hit) → hits ≡ cut_by asked (flat_map (hits_by ids asked) (tree_places (nodes_in node_of pages tree.rows) tree.root))
     → IsAnswer query (answer_of state query) hits
-kept-answer pages count first tables tree state kept ids query known hits are =
-    subst (IsAnswer query (answer_of state query)) (sym are)
-    (subst (λ (s : Contents). IsAnswer query (answer_of s query) (cut_by query (flat_map (hits_by ids query) (tree_places (nodes_in node_of pages tree.rows) tree.root)))) (sym kept.is)
-    (hits-answer ids kept.entries tables.next_word kept.agree (nodes_in node_of pages tree.rows) tree.root kept.serial kept.number kept.entries_are kept.holds.places.each query known))
+kept-answer pages count first tables tree state kept ids query asked known is hits are =
+    let entries = kept.entries in
+    let nodes = nodes_in node_of pages tree.rows in
+    let same : hits ≡ cut_by (asked_of (state_in entries kept.serial kept.number) query) (flat_map (hits_by ids (asked_of (state_in entries kept.serial kept.number) query)) (tree_places nodes tree.root)) =
+    are ∙ ap (λ (q : Query). cut_by q (flat_map (hits_by ids q) (tree_places nodes tree.root))) is in
+    subst (IsAnswer query (answer_of state query)) (sym same)
+    (subst (λ (s : Contents). IsAnswer query (answer_of s query) (cut_by (asked_of (state_in entries kept.serial kept.number) query) (flat_map (hits_by ids (asked_of (state_in entries kept.serial kept.number) query)) (tree_places nodes tree.root)))) (sym kept.is)
+    (hits-answer ids entries tables.next_word kept.agree nodes tree.root kept.serial kept.number kept.entries_are kept.holds.places.each query known))

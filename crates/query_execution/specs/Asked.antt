@@ -5,7 +5,7 @@ use Rattle.term_impacts.specs.Form.{word_form}
 use Rattle.place_values.specs.declared.query.Expr.{Expr}
 use Rattle.place_values.specs.declared.query.Expr.TheVariants.{Has, Not', And', Or'}
 use Rattle.place_values.specs.declared.query.Query.{Query}
-use Rattle.place_values.specs.declared.query.Query.TheVariants.{Range, Inside, Nearest, Top, Group}
+use Rattle.place_values.specs.declared.query.Query.TheVariants.{Range, Inside, Nearest, Top, Rare, Group, Gather}
 use Rattle.place_values.specs.Top.{Weighted}
 use Rattle.store_tables.specs.Entries.{number_of_word}
 use Rattle.node_filter.specs.Numbers.{Numbers, number_of}
@@ -26,13 +26,15 @@ words_by None = []
 abbrev pub words_of : Weighted → List (List ℕ)
 words_of terms = map (λ term. term.0) terms
 
--- the words that a query asks about; a group query has no hits, and none of its words is asked about
+-- the words that a query asks about
 abbrev pub asked_in : Query → List (List ℕ)
 asked_in (Range at scale radius filter) = words_by filter
 asked_in (Inside rect filter) = words_by filter
 asked_in (Nearest at scale k filter) = words_by filter
 asked_in (Top at scale k alpha reach words) = words_of words
-asked_in (Group at scale words) = []
+asked_in (Rare at scale k alpha reach words) = words
+asked_in (Group at scale words) = words
+asked_in (Gather at scale words) = words
 
 -- a word's form with its number
 abbrev pub form_with : List ℕ → Option ℕ → Numbers

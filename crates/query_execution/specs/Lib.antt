@@ -1,5 +1,6 @@
 pub mod Asked
 pub mod Answers
 pub mod Standing
-pub mod Damages
 pub mod Opened
+pub mod Damages
+pub mod Holders

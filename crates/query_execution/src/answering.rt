@@ -1,5 +1,5 @@
 //! The hits of a query.
-ghost use Rattle.std.specs.Prelude.{◌≡◌, ◌≢◌, ℕ, List, IfOk, IsErrOf};
+ghost use Rattle.std.specs.Prelude.{◌≡◌, ◌≢◌, ℕ, List, length, IfOk, IsErrOf};
 ghost use Rattle.std.specs.List.{flat_map};
 ghost use Rattle.page_face.specs.Calls.{Reads, FailsReading};
 ghost use Rattle.btree_nodes.specs.Damages.{AreReadable};
@@ -13,11 +13,12 @@ ghost use Rattle.irtree_shape.specs.Whole.{IsWhole};
 ghost use Rattle.node_filter.specs.Entries.{tree_places};
 ghost use Rattle.collective_query.specs.Searches.{IsSearchHarm};
 ghost use Rattle.query_execution.specs.Answers.{cut_by, hits_by, IsAnswer};
-ghost use Rattle.query_execution.specs.Damages.{IsAnswerHarm};
+ghost use Rattle.query_execution.specs.Damages.{IsHitsHarm};
 ghost use Rattle.query_execution.specs.Opened.{AreFewOpened, FewOpened, IsRowsPage};
 ghost use Rattle.query_execution.specs.Standing.{RootsStand};
 
 use crate::known::ids_of;
+use crate::weighing::{asked_as, weighed};
 use boolean_queries::{inside, nearest, range};
 use node_filter::Ids;
 use node_rows::Tree;
@@ -27,7 +28,7 @@ use std::alloc::Global;
 use store_tables::Tables;
 use topk_query::top;
 
-// The hits that a tree's entries give to a query, if the words have these numbers.
+// The hits that a tree's entries give to a query as it is asked of the places, if the words have these numbers.
 fn tree_hits<P: Pages>(
     alloc: Global,
     pages: &mut P,
@@ -97,18 +98,21 @@ fn tree_hits<P: Pages>(
                 words.as_slice(),
             )
         }
-        Query::Group { .. } => Ok(Vec::new(alloc)),
+        Query::Rare { .. } | Query::Group { .. } | Query::Gather { .. } => Ok(Vec::new(alloc)),
     }
 }
 
-/// Returns the hits of a range, box, nearest or top query over a store's tables and tree, in order. A group query has no hits.
+/// Returns the hits of a range, box, nearest or top query, or of one by rarity, over a store's tables and tree, in order. A group or gather
+/// query has no hits. `live` is the number of live places, and only a query by rarity needs it.
 ///
-/// If the tables and the tree hold the same places, these are the hits that a scan of all places gives.
+/// If the tables and the tree hold the same places, and so many, these are the hits that a scan of all places gives.
 ///
-/// Refuses `Damaged` by a rule that a page of the words by text, of the tree or of its rows breaks; `Disk`, `Stopped` and `Memory` as the
-/// pages do. No page is damaged if the tables and the tree hold a state.
+/// Refuses `Damaged` by a rule that a page of the words by text, of the tree or of its rows breaks, and for a query by rarity by one that
+/// a page of the words by number breaks, or with `Words` at page 0 if more places hold a word than live; `Disk`, `Stopped` and `Memory` as
+/// the pages do. No page is damaged if the tables and the tree hold a state.
 ///
-/// Looks at one page a level of the words by text for each word of the query. Then it opens only nodes of the tree that the query needs.
+/// Looks at one page a level of the words by text for each word of the query, and for a query by rarity then at one page a level of the
+/// words by number for each word that the store knows. Then it opens only nodes of the tree that the query needs.
 /// These are the root, and children below which an answer may be, by the least rectangle and the greatest impacts of their places. Range
 /// and box leave out those that are too far away or off the rectangle, nearest and top those whose bound is above the last hit's cost. Each
 /// opened node costs a look at its page and, for each word of the query that the store knows, at one page a level of the rows. The root of
@@ -118,19 +122,20 @@ pub fn hits<P: Pages>(
     pages: &mut P,
     tables: &Tables,
     tree: &Tree,
+    live: u32,
     query: &Query,
 ) -> Result<Vec<Hit>, PageFault>
     requires { IsWithinLimits query.now }
     ensures answered { (state : Contents) → RootsStand (P.pages pages.old) (P.count pages.old) (P.first pages.old) tables.now tree.now state
-        → AreReadable (P.pages pages.old) (P.count pages.old)
+        → live ≡ length state.places → AreReadable (P.pages pages.old) (P.count pages.old)
         → IfOk result (λ hits. IsAnswer query.now (answer_of state query.now) hits.items) }
     ensures opened { (state : Contents) → RootsStand (P.pages pages.old) (P.count pages.old) (P.first pages.old) tables.now tree.now state
-        → AreReadable (P.pages pages.old) (P.count pages.old)
-        → IfOk result (λ hits. AreFewOpened (P.pages pages.old) tables.now tree.now query.now (P.asked pages.old) (P.asked pages.new) hits.items) }
+        → live ≡ length state.places → AreReadable (P.pages pages.old) (P.count pages.old)
+        → IfOk result (λ hits. AreFewOpened (P.pages pages.old) tables.now tree.now state query.now (P.asked pages.old) (P.asked pages.new) hits.items) }
     ensures no_false_damage { (state : Contents) → RootsStand (P.pages pages.old) (P.count pages.old) (P.first pages.old) tables.now tree.now state
-        → AreReadable (P.pages pages.old) (P.count pages.old) → (damage : Damage) → result ≢ Err (PageFault.Damaged damage) }
+        → live ≡ length state.places → AreReadable (P.pages pages.old) (P.count pages.old) → (damage : Damage) → result ≢ Err (PageFault.Damaged damage) }
     ensures damaged { AreReadable (P.pages pages.old) (P.count pages.old) → (damage : Damage) → IsErrOf result (PageFault.Damaged damage)
-        → IsAnswerHarm (P.pages pages.old) (P.count pages.old) tables.now tree.now (P.asked pages.old) (P.asked pages.new) damage }
+        → IsHitsHarm (P.pages pages.old) (P.count pages.old) live tables.now tree.now query.now (P.asked pages.old) (P.asked pages.new) damage }
     ensures fails { FailsReading P.Pages pages.old pages.new result }
     ensures frame { Reads P.Pages pages.old pages.new }
 {
@@ -138,5 +143,9 @@ pub fn hits<P: Pages>(
         Ok(ids) => ids,
         Err(fault) => return Err(fault),
     };
-    tree_hits(alloc, pages, tree, &ids, query)
+    let top = match weighed(alloc, pages, tables, live, &ids, query) {
+        Ok(top) => top,
+        Err(fault) => return Err(fault),
+    };
+    tree_hits(alloc, pages, tree, &ids, asked_as(&top, query))
 }

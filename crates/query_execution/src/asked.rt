@@ -50,6 +50,16 @@ fn add_terms(terms: &[(Word, u8)], words: &mut Vec<Word>) -> Result<(), AllocErr
     Ok(())
 }
 
+// Adds words without weights.
+fn add_plain(plain: &[Word], words: &mut Vec<Word>) -> Result<(), AllocError>
+    ensures { OnOk result (words.new.items ≡ words.old.items ++ plain.now) }
+{
+    for word in plain {
+        words.push(*word)?;
+    }
+    Ok(())
+}
+
 // Adds the words of a query, in the order in which it has them.
 fn add_asked(query: &Query, words: &mut Vec<Word>) -> Result<(), AllocError>
     ensures { OnOk result (words.new.items ≡ words.old.items ++ asked_in query.now) }
@@ -59,12 +69,14 @@ fn add_asked(query: &Query, words: &mut Vec<Word>) -> Result<(), AllocError>
         Query::Inside { filter, .. } => add_filter(filter, words),
         Query::Nearest { filter, .. } => add_filter(filter, words),
         Query::Top { words: terms, .. } => add_terms(terms.as_slice(), words),
-        Query::Group { .. } => Ok(()),
+        Query::Rare { words: plain, .. } => add_plain(plain.as_slice(), words),
+        Query::Group { words: plain, .. } => add_plain(plain.as_slice(), words),
+        Query::Gather { words: plain, .. } => add_plain(plain.as_slice(), words),
     }
 }
 
-/// Some words in ascending order, each once.
-pub(crate) fn in_order(mut words: Vec<Word>) -> Vec<Word>
+// Some words in ascending order, each once.
+fn in_order(mut words: Vec<Word>) -> Vec<Word>
     ensures ascending { IsStrictlySortedBy word_cmp result.items }
     ensures every { (word : List ℕ) → Contains words.items word → Contains result.items word }
 {

@@ -10,7 +10,7 @@ ghost use Rattle.store_tables.specs.Entries.{Entries};
 ghost use Rattle.store_tables.specs.Holding.{Holds, table_uses, texts_form};
 ghost use Rattle.query_execution.specs.Asked.{asked_in, id_in, AreKnown};
 
-use crate::asked::{asked_words, in_order};
+use crate::asked::asked_words;
 use node_filter::Ids;
 use page_face::{Damage, PageFault, Pages};
 use place_values::Query;
@@ -104,39 +104,8 @@ fn ids_among<P: Pages>(
     }
 }
 
-/// Returns the numbers of some words. Each word is looked up once in the words by text, in ascending order; a word that the store doesn't
-/// know has no number.
-///
-/// Refuses as the pages do, and `Damaged` by a rule that a page of the words by text breaks. Looks at one page a level of the words by text
-/// for each word, and at no other page.
-pub(crate) fn ids_of_words<P: Pages>(
-    alloc: Global,
-    pages: &mut P,
-    tables: &Tables,
-    words: &[Word],
-) -> Result<Ids, PageFault>
-    ensures known { (entries : Entries) → Holds (P.pages pages.old) tables.now entries
-        → IfOk result (λ ids. AreKnown ids entries.texts words.now) }
-    ensures no_false_damage { (entries : Entries) → Holds (P.pages pages.old) tables.now entries
-        → AreReadable (P.pages pages.old) (P.count pages.old) → AreCounted (table_uses (P.pages pages.old) tables.now) (P.count pages.old)
-        → (damage : Damage) → ¬ IsErrOf result (PageFault.Damaged damage) }
-    ensures damaged { AreReadable (P.pages pages.old) (P.count pages.old)
-        → (damage : Damage) → IsErrOf result (PageFault.Damaged damage)
-        → IsMapDamaged texts_form (P.pages pages.old) (P.count pages.old) tables.now.texts damage × AskedSince (P.asked pages.old) (P.asked pages.new) damage.page }
-    ensures own { AreReadable (P.pages pages.old) (P.count pages.old)
-        → AsksOnly (map_uses texts_form (P.pages pages.old) tables.now.texts) (P.asked pages.old) (P.asked pages.new) }
-    ensures fails { FailsReading P.Pages pages.old pages.new result }
-    ensures frame { Reads P.Pages pages.old pages.new }
-{
-    let words = match Vec::from_slice(alloc, words) {
-        Ok(words) => in_order(words),
-        Err(_) => return Err(PageFault::Memory),
-    };
-    ids_among(alloc, pages, tables, words.as_slice())
-}
-
-/// Returns the numbers of the words that a query asks about: those of its filter, or its weighed words. Each word is looked up once in the
-/// words by text, in ascending order; a word that the store doesn't know has no number.
+/// Returns the numbers of the words that a query asks about: those of its filter, or the words that it lists. Each word is looked up once
+/// in the words by text, in ascending order; a word that the store doesn't know has no number.
 ///
 /// Refuses as the pages do, and `Damaged` by a rule that a page of the words by text breaks. Looks at one page a level of the words by text
 /// for each word, and at no other page.

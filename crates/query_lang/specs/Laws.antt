@@ -10,7 +10,7 @@ use Rattle.place_values.specs.declared.hit.Hit.{Hit}
 use Rattle.place_values.specs.declared.query.Expr.{Expr}
 use Rattle.place_values.specs.declared.query.Expr.TheVariants.{Has, Not', And', Or'}
 use Rattle.place_values.specs.declared.query.Query.{Query}
-use Rattle.place_values.specs.declared.query.Query.TheVariants.{Range, Inside, Nearest, Top, Group}
+use Rattle.place_values.specs.declared.query.Query.TheVariants.{Range, Inside, Nearest, Top, Rare, Group, Gather}
 use Rattle.place_values.specs.declared.query.Answer.TheVariants as answers
 use Rattle.place_values.specs.Filter.{holds, passes}
 use Rattle.place_values.specs.Hit.{comes_before}
@@ -53,7 +53,9 @@ answer_of-plain state (Nearest at scale k filter) =
     ap (λ (hits : List Hit). answers.Hits (first comes_before k hits))
     (given_same (near_hits (seen_from at scale) (plain_filter filter)) (near_hits (seen_from at scale) filter) state.places (λ entry. rw (passes-plain filter entry.1) refl))
 answer_of-plain state (Top at scale k alpha reach words) = refl
+answer_of-plain state (Rare at scale k alpha reach words) = refl
 answer_of-plain state (Group at scale words) = refl
+answer_of-plain state (Gather at scale words) = refl
 
 -- the reply to a query is written as its plain form's
 found-plain : (state : Contents) (query : Query) (explain : Bool) → found_text explain (plain_query query) (answer_of state (plain_query query)) ≡ found_text explain query (answer_of state query)
@@ -61,7 +63,9 @@ found-plain state (Range at scale radius filter) explain = ap (found_text explai
 found-plain state (Inside rect filter) explain = ap (found_text explain (Inside rect filter)) (answer_of-plain state (Inside rect filter))
 found-plain state (Nearest at scale k filter) explain = ap (found_text explain (Nearest at scale k filter)) (answer_of-plain state (Nearest at scale k filter))
 found-plain state (Top at scale k alpha reach words) explain = refl
+found-plain state (Rare at scale k alpha reach words) explain = refl
 found-plain state (Group at scale words) explain = refl
+found-plain state (Gather at scale words) explain = refl
 
 -- so a line is answered in the words of its plain form
 pub reply_of-plain : (state : Contents) (line : Line) → text_of_reply (reply_of state (Ok (plain_line line))) ≡ text_of_reply (reply_of state (Ok line))

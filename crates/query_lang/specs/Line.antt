@@ -1,5 +1,5 @@
 -- The line that bytes stand for.
-use Rattle.std.specs.Prelude.{◌≡◌, ℕ, ◌-◌, ◌^◌, ◌<◌, ◌==◌, nat_lt, if◌then◌else◌, Bool, true, false, pos, neg_ℤ, unsigned_abs, List, [], ◌∷◌, length, take, slice_index, codes, Option, Some, Result, Ok, Err, refl}
+use Rattle.std.specs.Prelude.{◌≡◌, ℕ, ◌-◌, ◌^◌, ◌<◌, ◌==◌, nat_lt, if◌then◌else◌, Bool, true, false, pos, neg_ℤ, unsigned_abs, List, [], ◌∷◌, length, take, slice_index, codes, Option, Some, None, Result, Ok, Err, refl}
 use Rattle.std.proofs.lemmas.Bool.{lt-ltb}
 use Rattle.std.specs.Str.{bytes_eq, is_utf8}
 use Rattle.spatial_base.specs.Point.{Position}
@@ -76,32 +76,57 @@ nearest_query = do
 abbrev pub words_sign : Token → Result (Unit {0}) LineFault
 words_sign token = if is_word (codes "words") token then Ok tt else Err faults.Extra
 
--- LON LAT K ALPHA REACH, the scale, words, and the words with their weights
-unfoldable pub top_query : List ℕ → Result Query LineFault
-top_query = do
+-- `words`, and the words without weights
+unfoldable pub listed_words : List ℕ → Result (List (List ℕ)) LineFault
+listed_words = do
+  _ ← part words_sign
+  some_words word_of
+
+-- `words`, and the words with their weights
+unfoldable pub listed_terms : List ℕ → Result (List (List ℕ × ℕ)) LineFault
+listed_terms = do
+  _ ← part words_sign
+  some_words term_of
+
+-- the text behind `idf`, where that is the next token; in a query that is explained `idf` is a token as any other
+abbrev pub behind_idf : Bool → List ℕ → Option (List ℕ)
+behind_idf explain text = if explain then None else behind_word (codes "idf") (token_of text)
+
+-- LON LAT K ALPHA REACH, the scale, and the words: behind `idf` without weights, else with them
+unfoldable pub top_query : Bool → List ℕ → Result Query LineFault
+top_query explain = do
   at ← point_part
   k ← part (whole_of 1 1000)
   alpha ← part (whole_of 0 1000)
   reach ← part (degrees_of (pos 1) (pos 4024922359))
   scale ← scale_part
-  _ ← part words_sign
-  λ text. made (queries.Top at scale k alpha (unsigned_abs reach)) (some_words term_of text)
+  λ text.
+      if_behind (λ rest. made (queries.Rare at scale k alpha (unsigned_abs reach)) (listed_words rest))
+      (made (queries.Top at scale k alpha (unsigned_abs reach)) (listed_terms text))
+      (behind_idf explain text)
 
--- LON LAT, the scale, words, and the words
+-- LON LAT, the scale, and the words
 unfoldable pub group_query : List ℕ → Result Query LineFault
 group_query = do
   at ← point_part
   scale ← scale_part
-  _ ← part words_sign
-  λ text. made (queries.Group at scale) (some_words word_of text)
+  λ text. made (queries.Group at scale) (listed_words text)
 
--- the query behind its command
-abbrev pub query_by : Asked → List ℕ → Result Query LineFault
-query_by asked.Range = range_query
-query_by asked.Box = box_query
-query_by asked.Nearest = nearest_query
-query_by asked.Top = top_query
-query_by asked.Group = group_query
+-- the same for a gather query
+unfoldable pub gather_query : List ℕ → Result Query LineFault
+gather_query = do
+  at ← point_part
+  scale ← scale_part
+  λ text. made (queries.Gather at scale) (listed_words text)
+
+-- the query behind its command, which is explained or not
+abbrev pub query_by : Bool → Asked → List ℕ → Result Query LineFault
+query_by explain asked.Range = range_query
+query_by explain asked.Box = box_query
+query_by explain asked.Nearest = nearest_query
+query_by explain asked.Top = top_query explain
+query_by explain asked.Group = group_query
+query_by explain asked.Gather = gather_query
 
 -- the command that a bare token names
 abbrev pub command_named : List ℕ → Result Command LineFault
@@ -116,6 +141,7 @@ command_named bytes =
     else if bytes_eq bytes (codes "nearest") then Ok (commands.Ask asked.Nearest)
     else if bytes_eq bytes (codes "top") then Ok (commands.Ask asked.Top)
     else if bytes_eq bytes (codes "group") then Ok (commands.Ask asked.Group)
+    else if bytes_eq bytes (codes "gather") then Ok (commands.Ask asked.Gather)
     else Err faults.Command
 
 -- a token that is a command
@@ -138,7 +164,7 @@ asks (Err fault) = Err fault
 
 -- a query, with or without what explains its answer
 abbrev pub ask_line : Bool → Asked → List ℕ → Result Line LineFault
-ask_line explain query text = made (λ q. lines.Ask q explain) (query_by query text)
+ask_line explain query text = made (λ q. lines.Ask q explain) (query_by explain query text)
 
 -- KEY LON LAT, and the text behind the blanks that follow
 unfoldable pub add_line : List ℕ → Result Line LineFault

@@ -8,7 +8,7 @@ use Rattle.place_values.specs.declared.query.Expr.TheVariants.{Has, Not, And, Or
 use Rattle.place_values.specs.Query.{IsWithinLimits}
 use Rattle.place_values.specs.Update.{NamesText}
 use Rattle.place_values.specs.declared.query.Query.{Query}
-use Rattle.place_values.specs.declared.query.Query.TheVariants.{Range, Inside, Nearest, Top, Group}
+use Rattle.place_values.specs.declared.query.Query.TheVariants.{Range, Inside, Nearest, Top, Rare, Group, Gather}
 use Rattle.query_lang.specs.declared.line.Line.{Line}
 use Rattle.query_lang.specs.declared.line.Line.TheVariants as lines
 
@@ -33,7 +33,9 @@ plain_query (Range at scale radius filter) = Range at scale radius (plain_filter
 plain_query (Inside rect filter) = Inside rect (plain_filter filter)
 plain_query (Nearest at scale k filter) = Nearest at scale k (plain_filter filter)
 plain_query (Top at scale k alpha reach words) = Top at scale k alpha reach words
+plain_query (Rare at scale k alpha reach words) = Rare at scale k alpha reach words
 plain_query (Group at scale words) = Group at scale words
+plain_query (Gather at scale words) = Gather at scale words
 
 -- the line
 abbrev pub plain_line : Line → Line

@@ -22,7 +22,7 @@ word_in is_named text = new_word is_named (only (words_of text))
 abbrev pub is_among : List (List ℕ) → List ℕ → Bool
 is_among words word = list_any (λ other. bytes_eq other word) words
 
--- a token that is a word of a group query
+-- a token that is a word without a weight
 abbrev pub word_of : List (List ℕ) → Token → Result (List ℕ) LineFault
 word_of named (Bare bytes) = word_in (is_among named) bytes
 word_of named (Quoted bytes) = word_in (is_among named) bytes
@@ -68,7 +68,7 @@ abbrev pub bare_term : List Term → List ℕ → Option (List ℕ × List ℕ) 
 bare_term named bytes None = unweighted (word_in (is_term named) bytes)
 bare_term named bytes (Some parts) = weighted (word_in (is_term named) parts.0) parts.1
 
--- a token that is a word of a top query
+-- a token that is a word with a weight
 abbrev pub term_of : List Term → Token → Result Term LineFault
 term_of named (Bare bytes) = bare_term named bytes (at_star bytes)
 term_of named (Quoted bytes) = unweighted (word_in (is_term named) bytes)

@@ -14,6 +14,7 @@ pub(crate) enum Asked {
     Nearest,
     Top,
     Group,
+    Gather,
 }
 
 /// What a line can do.
@@ -42,6 +43,7 @@ fn command_named(name: &str) -> Result<Command, LineFault>
         "nearest" => Ok(Command::Ask(Asked::Nearest)),
         "top" => Ok(Command::Ask(Asked::Top)),
         "group" => Ok(Command::Ask(Asked::Group)),
+        "gather" => Ok(Command::Ask(Asked::Gather)),
         _ => Err(LineFault::Command),
     }
 }

@@ -98,7 +98,7 @@ fn ask(alloc: Global, explain: bool, asked: Asked, text: &str) -> Result<Line, L
     ensures says { Answers plain_line result (ask_line explain asked text.now) }
     ensures sound { IfOk result IsSound }
 {
-    let query = query(alloc, asked, text)?;
+    let query = query(alloc, explain, asked, text)?;
     Ok(Line::Ask { query, explain })
 }
 

@@ -1,8 +1,8 @@
 //! Reads a query after its command.
-ghost use Rattle.std.specs.Prelude.{◌≡◌, ◌≤◌, ◌≤ℤ◌, Ok, IfOk, pos, neg_ℤ};
-ghost use Rattle.place_values.specs.Query.{IsWithinLimits};
+ghost use Rattle.std.specs.Prelude.{◌≡◌, ◌≤◌, ◌≤ℤ◌, Ok, IfOk, IfErr, option_map, pos, neg_ℤ};
+ghost use Rattle.place_values.specs.Query.{IsTerms, IsWeights, IsWithinLimits};
 ghost use Rattle.query_lang.specs.Line as spec;
-ghost use Rattle.query_lang.specs.Line.{range_query, box_query, nearest_query, top_query, group_query, query_by};
+ghost use Rattle.query_lang.specs.Line.{range_query, box_query, nearest_query, top_query, group_query, gather_query, query_by};
 ghost use Rattle.query_lang.specs.Plain.{plain_query};
 ghost use Rattle.query_lang.specs.Reader.{Answers, part};
 
@@ -15,6 +15,7 @@ use place_values::{ALPHA_MAX, COUNT_MAX, Query, RADIUS_MAX, REACH_MAX, Terms, We
 use query_replies::LineFault;
 use spatial_base::{LATITUDE_MAX, LONGITUDE_MAX, Point, Rect, SCALE_MAX};
 use std::alloc::Global;
+use term_impacts::Word;
 
 // The greatest longitude, signed as the numbers that are read.
 const EAST: i64 = LONGITUDE_MAX as i64;
@@ -161,10 +162,43 @@ fn behind_words(alloc: Global, text: &str) -> Result<&str, LineFault>
     }
 }
 
-// LON LAT K ALPHA REACH, an optional scale, `words`, and the words with their weights.
+// `words`, and the words without weights.
+#[tactic(auto, unfolding(crate::specs::Line::listed_words))]
+fn listed_words(alloc: Global, text: &str) -> Result<Vec<Word>, LineFault>
+    ensures says { Answers (λ words. words.items) result (spec.listed_words text.now) }
+    ensures sound { IfOk result (λ words. IsTerms words.items) }
+{
+    let text = behind_words(alloc, text)?;
+    words(alloc, text)
+}
+
+// `words`, and the words with their weights.
+#[tactic(auto, unfolding(crate::specs::Line::listed_terms))]
+fn listed_terms(alloc: Global, text: &str) -> Result<Vec<(Word, u8)>, LineFault>
+    ensures says { Answers (λ terms. terms.items) result (spec.listed_terms text.now) }
+    ensures sound { IfOk result (λ terms. IsWeights terms.items) }
+{
+    let text = behind_words(alloc, text)?;
+    terms(alloc, text)
+}
+
+// The text after `idf`, if that is the next token and the query is not explained.
+fn behind_idf(alloc: Global, explain: bool, text: &str) -> Result<Option<&str>, LineFault>
+    ensures says { IfOk result (λ rest. option_map (λ r. r.now) rest ≡ spec.behind_idf explain text.now) }
+    ensures memory { IfErr result (λ fault. fault ≡ LineFault.Memory) }
+{
+    if explain {
+        Ok(None)
+    } else {
+        behind_word(alloc, "idf", text)
+    }
+}
+
+// LON LAT K ALPHA REACH, an optional scale, `words`, and the words with their weights. With `idf` before `words` the words have none.
+// A query whose answer is explained has no `idf`, since only the query's own weights could be shown.
 #[tactic(auto, unfolding(crate::specs::Line::top_query))]
-fn top(alloc: Global, text: &str) -> Result<Query, LineFault>
-    ensures says { Answers plain_query result (top_query text.now) }
+fn top(alloc: Global, explain: bool, text: &str) -> Result<Query, LineFault>
+    ensures says { Answers plain_query result (top_query explain text.now) }
     ensures sound { IfOk result IsWithinLimits }
 {
     let (at, text) = match point_part(alloc, text) {
@@ -175,19 +209,30 @@ fn top(alloc: Global, text: &str) -> Result<Query, LineFault>
     let (alpha, text) = whole_part(alloc, 0, ALPHA_MAX, text)?;
     let (reach, text) = degrees_part(alloc, 1, REACH_MAX as i64, text)?;
     let (scale, text) = scale_part(alloc, text)?;
-    let text = behind_words(alloc, text)?;
-    let words = terms(alloc, text)?;
+    let reach = reach.unsigned_abs();
+    if let Some(text) = behind_idf(alloc, explain, text)? {
+        let words = Terms::from_vec(listed_words(alloc, text)?);
+        return Ok(Query::Rare {
+            at,
+            scale,
+            k,
+            alpha,
+            reach,
+            words,
+        });
+    }
+    let words = Weights::from_vec(listed_terms(alloc, text)?);
     Ok(Query::Top {
         at,
         scale,
         k,
         alpha,
-        reach: reach.unsigned_abs(),
-        words: Weights::from_vec(words),
+        reach,
+        words,
     })
 }
 
-// LON LAT, an optional scale, `words`, and the words.
+// LON LAT, an optional scale, `words`, and the words, for a group query.
 #[tactic(auto, unfolding(crate::specs::Line::group_query))]
 fn group(alloc: Global, text: &str) -> Result<Query, LineFault>
     ensures says { Answers plain_query result (group_query text.now) }
@@ -198,8 +243,7 @@ fn group(alloc: Global, text: &str) -> Result<Query, LineFault>
         Err(fault) => return Err(fault),
     };
     let (scale, text) = scale_part(alloc, text)?;
-    let text = behind_words(alloc, text)?;
-    let words = words(alloc, text)?;
+    let words = listed_words(alloc, text)?;
     Ok(Query::Group {
         at,
         scale,
@@ -207,16 +251,41 @@ fn group(alloc: Global, text: &str) -> Result<Query, LineFault>
     })
 }
 
-/// Returns the query after its command.
-pub(crate) fn query(alloc: Global, asked: Asked, text: &str) -> Result<Query, LineFault>
-    ensures says { Answers plain_query result (query_by asked text.now) }
+// LON LAT, an optional scale, `words`, and the words, for a gather query.
+#[tactic(auto, unfolding(crate::specs::Line::gather_query))]
+fn gather(alloc: Global, text: &str) -> Result<Query, LineFault>
+    ensures says { Answers plain_query result (gather_query text.now) }
+    ensures sound { IfOk result IsWithinLimits }
+{
+    let (at, text) = match point_part(alloc, text) {
+        Ok(read) => read,
+        Err(fault) => return Err(fault),
+    };
+    let (scale, text) = scale_part(alloc, text)?;
+    let words = listed_words(alloc, text)?;
+    Ok(Query::Gather {
+        at,
+        scale,
+        words: Terms::from_vec(words),
+    })
+}
+
+/// Returns the query after its command. `explain` says whether its answer is explained.
+pub(crate) fn query(
+    alloc: Global,
+    explain: bool,
+    asked: Asked,
+    text: &str,
+) -> Result<Query, LineFault>
+    ensures says { Answers plain_query result (query_by explain asked text.now) }
     ensures sound { IfOk result IsWithinLimits }
 {
     match asked {
         Asked::Range => range(alloc, text),
         Asked::Box => inside(alloc, text),
         Asked::Nearest => nearest(alloc, text),
-        Asked::Top => top(alloc, text),
+        Asked::Top => top(alloc, explain, text),
         Asked::Group => group(alloc, text),
+        Asked::Gather => gather(alloc, text),
     }
 }

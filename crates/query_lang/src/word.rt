@@ -1,4 +1,4 @@
-//! Reads the words of group and top queries.
+//! Reads the words of top, group and gather queries.
 ghost use Rattle.std.specs.Prelude.{◌≡◌, ◌<◌, ◌+◌, ◌++◌, ◌∷◌, [], length, take, drop, slice_index, option_map, IfSome, IfOk, IfErr};
 ghost use Rattle.line_tokens.specs.Seen.{seen};
 ghost use Rattle.place_values.specs.Query.{IsTerms, IsWeights};
@@ -63,7 +63,7 @@ fn new_term(alloc: Global, text: &str, named: &[(Word, u8)]) -> Result<Word, Lin
     Ok(word)
 }
 
-// The word that a token of a group query names.
+// The word that a token names in a query whose words have no weights.
 fn word(alloc: Global, token: &Token, named: &[Word]) -> Result<Word, LineFault>
     ensures { Answers (λ w. w) result (word_of named.now (seen token.now)) }
 {
@@ -111,7 +111,7 @@ fn quoted_term(alloc: Global, text: &str, named: &[(Word, u8)]) -> Result<(Word,
     Ok((word, 1))
 }
 
-// The term that a token of a top query names.
+// The term that a token of a top query with weights names.
 fn term(alloc: Global, token: &Token, named: &[(Word, u8)]) -> Result<(Word, u8), LineFault>
     ensures { Answers (λ t. (t.0, t.1)) result (term_of named.now (seen token.now)) }
 {
@@ -169,7 +169,7 @@ fn next_word(
     more_words(alloc, left, words, text)
 }
 
-/// Returns the 1 to 8 words of a group query, up to the end of the line.
+/// Returns the 1 to 8 words of a query whose words have no weights, up to the end of the line.
 pub(crate) fn words(alloc: Global, text: &str) -> Result<Vec<Word>, LineFault>
     ensures says { Answers (λ words. words.items) result (some_words word_of text.now) }
     ensures sound { IfOk result (λ words. IsTerms words.items) }

@@ -12,21 +12,25 @@ use Rattle.place_values.specs.Top.{weight_sum}
 use Rattle.query_replies.specs.Parts.{key_text, units_text, at_text}
 use Rattle.query_replies.specs.Lines.{ranked_lines}
 use Rattle.query_replies.specs.declared.found.Column.{Column}
-use Rattle.query_replies.specs.declared.found.Column.TheVariants.{Key, Dist, Cost}
+use Rattle.query_replies.specs.declared.found.Column.TheVariants.{Key, Dist, Cost, CostAlone}
 
--- what the line of a hit has: its key; `KEY DIST`; or `KEY COST`, where the words count for so much at most
+-- What the line of a hit has: its key; `KEY DIST`; `KEY COST`, where the words count for so much at most; or `KEY COST` where the query
+-- doesn't say what its words weigh.
 abbrev pub column_of : Query → Option Column
 column_of (queries.Range at scale radius filter) = Some Dist
 column_of (queries.Inside rect filter) = Some Key
 column_of (queries.Nearest at scale k filter) = Some Dist
 column_of (queries.Top at scale k alpha reach words) = Some (Cost (255 * weight_sum words))
+column_of (queries.Rare at scale k alpha reach words) = Some CostAlone
 column_of (queries.Group at scale words) = None
+column_of (queries.Gather at scale words) = None
 
 -- the number behind the key
 abbrev pub number_text : Column → Hit → List ℕ
 number_text Key hit = []
 number_text Dist hit = 32 ∷ units_text hit.dist
 number_text (Cost total) hit = 32 ∷ decimal hit.cost
+number_text CostAlone hit = 32 ∷ decimal hit.cost
 
 -- ` dist DIST text T of TOTAL`
 abbrev pub score_text : ℕ → Hit → List ℕ
@@ -37,6 +41,7 @@ abbrev pub reason_text : Bool → Column → Hit → List ℕ
 reason_text explain Key hit = []
 reason_text explain Dist hit = []
 reason_text explain (Cost total) hit = if explain then score_text total hit else []
+reason_text explain CostAlone hit = []
 
 -- what the line of a hit says behind its rank
 abbrev pub hit_text : Bool → Column → Hit → List ℕ
@@ -64,10 +69,12 @@ column_hits explain (Some column) hits = hits_text explain column hits
 -- the choice of a query that chooses
 abbrev pub query_group : Bool → Query → Option Chosen → List ℕ
 query_group explain (queries.Group at scale words) chosen = group_text explain chosen
+query_group explain (queries.Gather at scale words) chosen = group_text explain chosen
 query_group explain (queries.Range at scale radius filter) chosen = []
 query_group explain (queries.Inside rect filter) chosen = []
 query_group explain (queries.Nearest at scale k filter) chosen = []
 query_group explain (queries.Top at scale k alpha reach words) chosen = []
+query_group explain (queries.Rare at scale k alpha reach words) chosen = []
 
 -- an answer to a query; one to a query of another kind has no byte
 abbrev pub found_text : Bool → Query → Answer → List ℕ

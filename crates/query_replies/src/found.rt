@@ -22,6 +22,8 @@ pub(crate) enum Column {
     Dist,
     /// The cost, with the most that the words can count.
     Cost(u128),
+    /// The cost, in a query by rarity: the weights of its words are not in the query.
+    CostAlone,
 }
 
 // The most that words can count: the sum of each weight times an impact of 255.
@@ -43,7 +45,8 @@ fn column_for(query: &Query) -> Option<Column>
         Query::Range { .. } | Query::Nearest { .. } => Some(Column::Dist),
         Query::Inside { .. } => Some(Column::Key),
         Query::Top { words, .. } => Some(Column::Cost(most_text(words.as_slice()))),
-        Query::Group { .. } => None,
+        Query::Rare { .. } => Some(Column::CostAlone),
+        Query::Group { .. } | Query::Gather { .. } => None,
     }
 }
 
@@ -57,7 +60,7 @@ fn write_column(column: Column, hit: &Hit, out: &mut Vec<u8>) -> Result<(), Memo
             write_bytes(b" ", &mut *out)?;
             write_units(hit.dist, out)
         }
-        Column::Cost(_) => {
+        Column::Cost(_) | Column::CostAlone => {
             write_bytes(b" ", &mut *out)?;
             write_number(hit.cost, out)
         }
@@ -135,7 +138,7 @@ fn write_hits_found(
     write_hits(alloc, explain, column, hits, out)
 }
 
-// Appends the choice of a group query, or that there is none.
+// Appends the choice of a group or gather query, or that there is none.
 fn write_chosen(
     alloc: Global,
     explain: bool,
@@ -172,7 +175,7 @@ pub(crate) fn write_found(
             None => Ok(()),
         },
         Answer::Group(chosen) => match query {
-            Query::Group { .. } => write_chosen(alloc, explain, chosen, out),
+            Query::Group { .. } | Query::Gather { .. } => write_chosen(alloc, explain, chosen, out),
             _ => Ok(()),
         },
     }

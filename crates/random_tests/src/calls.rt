@@ -128,12 +128,16 @@ fn calls_for(query: &Query, hits: &[Hit], round: &Round) -> bool {
                 None => false,
             }
         }
-        Query::Group { words, .. } => has_some(round, words.as_slice()),
+        // It is judged as the top query that it is asked as.
+        Query::Rare { .. } => false,
+        Query::Group { words, .. } | Query::Gather { words, .. } => {
+            has_some(round, words.as_slice())
+        }
     }
 }
 
-/// Whether a node of a log is one that the query needs, and its parent is in the log. Range, box and group queries open the root
-/// whatever is below it.
+/// Whether a node of a log is one that the query needs, and its parent is in the log. Range, box, group and gather queries
+/// open the root whatever is below it.
 pub(crate) fn is_due(query: &Query, hits: &[Hit], log: &[u32], node: &Node) -> bool {
     if node.parent == 0 {
         match query {

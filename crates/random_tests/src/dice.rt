@@ -194,16 +194,23 @@ fn write_box(line: &mut String, first: (u32, u32), second: (u32, u32)) -> Result
     write_point(line, (first.0.max(second.0), first.1.max(second.1)), "")
 }
 
-// Writes what a top query has after its point, with its scale. Its words are an even and an odd one, and a store may have neither.
+// Writes what a top query has after its point, with its scale. Its words are an even and an odd one, and a store may have neither. Of three
+// queries one has weights by rarity.
 fn write_ranking(line: &mut String, dice: &mut Dice, scale: &str) -> Result<(), AllocError> {
     line.push_str(COUNTS[dice.below(8) as usize])?;
     line.push_str(SHARES[dice.below(4) as usize])?;
     line.push_str(REACHES[dice.below(4) as usize])?;
     line.push_str(scale)?;
-    write_pair(line, 2 * dice.below(22), "*3", 2 * dice.below(22) + 1)
+    let (weight, by_rarity) = if dice.below(3) == 0 {
+        ("", " idf")
+    } else {
+        ("*3", "")
+    };
+    line.push_str(by_rarity)?;
+    write_pair(line, 2 * dice.below(22), weight, 2 * dice.below(22) + 1)
 }
 
-// Writes a query of each kind in turn, with a scale. Group queries are rare, since each tries many choices. One box in four has all
+// Writes a query of each kind in turn, with a scale. Group and gather queries are rare, since the scan tries many choices. One box in four has all
 // longitudes.
 fn write_query(
     line: &mut String,
@@ -215,7 +222,7 @@ fn write_query(
 ) -> Result<(), AllocError> {
     match turn % 17 {
         0 => {
-            line.push_str("group")?;
+            line.push_str(["group", "gather"][dice.below(2) as usize])?;
             write_point(line, at, "")?;
             line.push_str(scale)?;
             write_pair(line, 2 * dice.below(20), "", 2 * dice.below(20) + 1)

@@ -1,4 +1,4 @@
-//! Compares what scripts reply to group queries over small random maps with a scan of all choices.
+//! Compares what scripts reply to group and gather queries over small random maps with a scan of all choices.
 ghost use Rattle.std.specs.Prelude.{IfOk};
 ghost use Rattle.query_replies.specs.Reply.{HasReason};
 
@@ -13,7 +13,7 @@ use std::alloc::{AllocError, Global};
 use std::fmt::Write;
 use std::test::Fail;
 
-// How many maps are tried, the most places that a map has, the same for one map in ten, and how many group queries each map gets.
+// How many maps are tried, the most places that a map has, the same for one map in ten, and how many of these queries each map gets.
 const MAPS: u32 = 2_000;
 
 const PLACES: u32 = 14;
@@ -110,7 +110,7 @@ fn write_add(
     script.push_str("\n")
 }
 
-// Writes a group query for one to four words, from a point on the grid or between its points.
+// Writes a group or gather query for one to four words, from a point on the grid or between its points.
 fn write_group(
     script: &mut String,
     dice: &mut Dice,
@@ -119,7 +119,8 @@ fn write_group(
 ) -> Result<(), AllocError> {
     let x = ASKED[side % 2][dice.below(4) as usize];
     let y = dice.below(4);
-    write!(script, "group {x} {y}{scale} words")?;
+    let command = ["group", "gather"][dice.below(2) as usize];
+    write!(script, "{command} {x} {y}{scale} words")?;
     let (first, count) = (dice.below(6), dice.below(4).saturating_add(1));
     for n in 0..count {
         script.push_str(WORDS[(first.saturating_add(n) % 6) as usize])?;

@@ -10,14 +10,15 @@ use crate::maps::{Map, PLACES, made};
 use crate::tree_nodes::is_of_words;
 use disk_model::MemoryStation;
 use irtree_engine::Engine;
-use place_values::{Answer, Hit, Query};
+use place_values::{Answer, Hit, Query, Weights};
 use query_lang::{Line, read_line};
 use spatial_base::Key;
 use split_policy::{Halving, Quadratic};
 use std::alloc::Global;
 use std::test::Fail;
+use term_impacts::Word;
 
-// How many queries are run. Of 17 in a row one is a group query, and each other kind comes four times.
+// How many queries are run. Of 17 in a row one is a group or gather query, and each other kind comes four times.
 const MANY: u32 = 4_250;
 
 const SOME: u32 = 425;
@@ -85,6 +86,58 @@ fn are_same(one: &Answer, other: &Answer) -> bool {
     }
 }
 
+// How many places a map has, and how many of them have a word.
+fn counts_of(alloc: Global, map: &Map, word: &Word) -> Result<(u32, u32), Fail> {
+    let (mut live, mut holders) = (0_u32, 0_u32);
+    for number in 0..PLACES {
+        let name = format!(in alloc; "p{number:04}")?;
+        if let Some((_, words, _)) = map.state.show(&Key::of_text(name.as_str())?) {
+            live = live.saturating_add(1);
+            holders = holders.saturating_add(u32::from(words.impact(word) > 0));
+        }
+    }
+    Ok((live, holders))
+}
+
+// The weight of a word by its rarity.
+fn weight_of((live, holders): (u32, u32)) -> u8 {
+    let (mut weight, mut most) = (1_u8, holders);
+    for _ in 0..19 {
+        let doubled = most.saturating_mul(2);
+        if holders > 0 && doubled <= live {
+            (weight, most) = (weight.saturating_add(1), doubled);
+        }
+    }
+    weight
+}
+
+// A query by rarity as the top query with the weights that a map's places give its words, and `None` for any other query.
+fn as_top(alloc: Global, map: &Map, query: &Query) -> Result<Option<Query>, Fail> {
+    let Query::Rare {
+        at,
+        scale,
+        k,
+        alpha,
+        reach,
+        words,
+    } = query
+    else {
+        return Ok(None);
+    };
+    let mut weights = Vec::new(alloc);
+    for word in words.as_slice() {
+        weights.push((*word, weight_of(counts_of(alloc, map, word)?)))?;
+    }
+    Ok(Some(Query::Top {
+        at: *at,
+        scale: *scale,
+        k: *k,
+        alpha: *alpha,
+        reach: *reach,
+        words: Weights::from_vec(weights),
+    }))
+}
+
 // Checks the answer to a query, which must be that of the scan, and its log.
 fn look(
     alloc: Global,
@@ -105,7 +158,10 @@ fn look(
     if !are_same(&answer, &wanted) {
         return Err("another answer".into());
     }
-    check_log(map, &query, &answer, engine.read_log())
+    match as_top(alloc, map, &query)? {
+        Some(top) => check_log(map, &top, &answer, engine.read_log()),
+        None => check_log(map, &query, &answer, engine.read_log()),
+    }
 }
 
 // Checks all queries over an engine.

@@ -2,6 +2,7 @@
 //! holds.
 use crate::small_tree::{Grown, Leaf, Place, Row, planted, word};
 use collective_query::group;
+use group_sum::group_sum;
 use node_inverted::Tree;
 use page_face::{Damage, PageFault, Pages, Rule};
 use place_values::Chosen;
@@ -119,32 +120,45 @@ fn words_of(alloc: Global, texts: &[&str]) -> Option<Vec<Word>> {
     Some(words)
 }
 
+// What is least of a choice.
+#[derive(Clone, Copy)]
+enum Least {
+    // The greatest distance from the point and between two places.
+    Reach,
+    // The sum of the distances from the point.
+    Sum,
+}
+
 // The answer to a query for some words from 0 0.
-fn group_of(
+fn choice_of(
     alloc: Global,
     grown: &mut Grown,
+    least: Least,
     scale: u16,
     texts: &[&str],
 ) -> Option<Result<Option<Chosen>, PageFault>> {
     let at = Point::new(0, 0)?;
-    if scale > SCALE_MAX {
+    let words = words_of(alloc, texts)?;
+    if scale > SCALE_MAX || words.len() > 8 {
         return None;
     }
-    let words = words_of(alloc, texts)?;
-    Some(group(
-        alloc,
-        &mut grown.pages,
-        &grown.tree,
-        &grown.ids,
-        &at,
-        scale,
-        &words,
-    ))
+    let (pages, tree, ids) = (&mut grown.pages, &grown.tree, &grown.ids);
+    Some(match least {
+        Least::Reach => group(alloc, pages, tree, ids, &at, scale, &words),
+        Least::Sum => group_sum(alloc, pages, tree, ids, &at, scale, &words),
+    })
 }
 
 // Whether the choice for some words from 0 0 is this.
-fn is_chosen(alloc: Global, grown: &mut Grown, scale: u16, texts: &[&str], wanted: &str) -> bool {
-    match group_of(alloc, grown, scale, texts) {
+fn is_chosen(
+    alloc: Global,
+    grown: &mut Grown,
+    least: Least,
+    scale: u16,
+    texts: &[&str],
+    wanted: &str,
+) -> bool {
+    match choice_of(alloc, grown, least, scale, texts) {
         Some(answer) => readable(alloc, &answer, wanted),
         None => false,
     }
@@ -174,20 +188,47 @@ fn places_that_are_near_together_cost_least(rt: HostRuntime) -> Result<(), Fail>
     let tree = planted(rt.alloc(), &LEAVES, &PLACES, &ROWS, &WORDS);
     let mut tree = tree.ok_or("no tree")?;
     for (scale, texts, wanted) in &GROUPS {
-        assert!(rt; is_chosen(rt.alloc(), &mut tree, *scale, texts, wanted));
+        assert!(rt; is_chosen(rt.alloc(), &mut tree, Least::Reach, *scale, texts, wanted));
     }
     tree.tree = Tree { root: 0, rows: 0 };
-    assert!(rt; is_chosen(rt.alloc(), &mut tree, SCALE_MAX, &["a"], ""));
+    assert!(rt; is_chosen(rt.alloc(), &mut tree, Least::Reach, SCALE_MAX, &["a"], ""));
+    Ok(())
+}
+
+// The same for the least sum. Two places of "r" are equally far, and so are three of "m" if longitudes don't count.
+static GATHERS: [(u16, &[&str], &str); 11] = [
+    (1000, &["b"], "10 b1"),
+    (1000, &["e"], "0 e1"),
+    (1000, &["f", "g"], "5 fg fg"),
+    (1000, &["a", "b", "c"], "30 a1 b1 c1"),
+    (1000, &["f", "a", "g", "e"], "15 fg a1 fg e1"),
+    (1000, &["d", "e"], "10 d1 e1"),
+    (1000, &["a", "h"], ""),
+    (1000, &["m", "r"], "112 m0 r1"),
+    (1000, &["r", "m", "r"], "112 r1 m0 r1"),
+    (500, &["a", "b"], "10 a1 b1"),
+    (0, &["r", "m"], "51 r1 m0"),
+];
+
+#[test]
+fn places_cost_least_in_sum(rt: HostRuntime) -> Result<(), Fail> {
+    let tree = planted(rt.alloc(), &LEAVES, &PLACES, &ROWS, &WORDS);
+    let mut tree = tree.ok_or("no tree")?;
+    for (scale, texts, wanted) in &GATHERS {
+        assert!(rt; is_chosen(rt.alloc(), &mut tree, Least::Sum, *scale, texts, wanted));
+    }
+    tree.tree = Tree { root: 0, rows: 0 };
+    assert!(rt; is_chosen(rt.alloc(), &mut tree, Least::Sum, SCALE_MAX, &["a"], ""));
     Ok(())
 }
 
 // Whether the leaf in the west is named, since it has no slot.
-fn is_named(alloc: Global, grown: &mut Grown) -> bool {
+fn is_named(alloc: Global, grown: &mut Grown, least: Least) -> bool {
     let damage = Damage {
         page: 2,
         rule: Rule::Fill,
     };
-    match group_of(alloc, grown, SCALE_MAX, &["a", "e"]) {
+    match choice_of(alloc, grown, least, SCALE_MAX, &["a", "e"]) {
         Some(answer) => answer.err() == Some(PageFault::Damaged(damage)),
         None => false,
     }
@@ -198,7 +239,18 @@ fn a_broken_page_is_named_with_its_rule(rt: HostRuntime) -> Result<(), Fail> {
     let tree = planted(rt.alloc(), &LEAVES, &PLACES, &ROWS, &WORDS);
     let mut tree = tree.ok_or("no tree")?;
     assert_eq!(rt; tree.pages.write(2, &new_node(0)), Ok(()));
-    assert!(rt; is_chosen(rt.alloc(), &mut tree, SCALE_MAX, &["f", "g"], "5 fg fg"));
-    assert!(rt; is_named(rt.alloc(), &mut tree));
+    for least in [Least::Reach, Least::Sum] {
+        assert!(rt;
+            is_chosen(
+                rt.alloc(),
+                &mut tree,
+                least,
+                SCALE_MAX,
+                &["f", "g"],
+                "5 fg fg"
+            )
+        );
+        assert!(rt; is_named(rt.alloc(), &mut tree, least));
+    }
     Ok(())
 }

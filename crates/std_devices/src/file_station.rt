@@ -21,11 +21,11 @@ const ROOM: u32 = 4_194_304;
 
 /// A station with its areas in the files STORE and STORE.journal, and standard output as its sink.
 ///
-/// The first call of the disk opens the files, creates those that do not exist, and locks both until the station is dropped. If the
-/// file system has locks, a second process that opens one of them gets a fault. A link to STORE is followed, and the journal is beside
-/// the file itself. A file with more than one hard link is refused. The folder is made safe before the first byte is read. A read gives
-/// zeros past a file's end, and fails if the file had bytes there before. A sync makes the file's bytes safe. Before the first write after a
-/// sync, and after each sync, a call fails if the file was cut short or removed.
+/// The first call of the disk opens the files, creates those that do not exist, and locks both until the station is dropped. If the file
+/// system has locks, a second process that opens one of them gets a fault. A link to STORE is followed, and the journal is beside the file
+/// itself. A file with more than one hard link is refused. The folder is made safe before the first byte is read. A read gives zeros past
+/// a file's end, and fails if the file had bytes there before. A sync makes the file's bytes safe. Before the first write after a sync,
+/// and after each sync, a call fails if the file was cut short or removed.
 ///
 /// Contracts do not know the content. Each call that fails raises the count of its kind, and [`FileStation::trouble`] gives the reason.
 /// After a call of the disk has failed, each later one fails too and reaches no file, because after a failed sync the system may have

@@ -1,4 +1,4 @@
-//! How far a run has come, said on an output once a second at most.
+//! How far a run has come, written to an output once a second at most.
 ghost use Rattle.std.specs.Prelude.{◌≡◌, min, ◌+◌, ◌-◌, ◌^◌, None};
 
 use spatial_base::Memory;

@@ -47,7 +47,7 @@ impl Tables {
     ghost use Rattle.store_tables.specs.Holding.{Holds, table_uses, numbers_form, places_form, texts_form};
     ghost use Rattle.store_tables.specs.Broken.{IsPlaceDamage, IsPlaceRead, IsNumberDamage, IsNextDamage};
     ghost use Rattle.store_tables.specs.Rows.{IsNumberSpot};
-    ghost use Rattle.store_tables.specs.Words.{word_in};
+    ghost use Rattle.store_tables.specs.Words.{word_in, places_in, places_of_number};
 
     /// Returns the place at a key, or `None` if there is none.
     ///
@@ -216,6 +216,35 @@ impl Tables {
         match self.counted(pages, number)? {
             Some(counted) => Ok(Some(counted.word)),
             None => Ok(None),
+        }
+    }
+
+    /// Returns how many places hold the word of a number, 0 if there is no such word.
+    ///
+    /// Refuses as [`Tables::word_of`] does. Looks at one page a level of the words by number, and at no other page.
+    pub fn places_of<P: Pages>(&self, pages: &mut P, number: u64) -> Result<u32, PageFault>
+        ensures found { (entries : Entries) → Holds (P.pages pages.old) self.now entries
+            → IfOk result (λ places. places ≡ places_of_number number entries.numbers) }
+        ensures formed { IsMap numbers_form (P.pages pages.old) self.now.numbers
+            → IfOk result (λ places. (row : Option Counted) × (lookup number (map_rows numbers_form (P.pages pages.old) self.now.numbers) ≡ option_map counted_value row)
+            × IfSome row IsCounted × (places ≡ places_in row)) }
+        // Each page on the way kept the rules in its place. On any pages whose bytes are readable, the result is what the leaf has there.
+        ensures kept { AreReadable (P.pages pages.old) (P.count pages.old)
+            → IfOk result (λ places. (row : Option Counted) × IsLookedUp numbers_form (P.pages pages.old) (P.count pages.old) self.now.numbers number (option_map counted_value row) × (places ≡ places_in row)) }
+        ensures no_false_damage { (entries : Entries) → Holds (P.pages pages.old) self.now entries
+            → AreReadable (P.pages pages.old) (P.count pages.old) → AreCounted (table_uses (P.pages pages.old) self.now) (P.count pages.old)
+            → (damage : Damage) → ¬ IsErrOf result (PageFault.Damaged damage) }
+        ensures damaged { AreReadable (P.pages pages.old) (P.count pages.old)
+            → (damage : Damage) → IsErrOf result (PageFault.Damaged damage)
+            → IsNumberDamage (P.pages pages.old) (P.count pages.old) self.now.numbers number (P.asked pages.old) (P.asked pages.new) damage }
+        ensures own { AreReadable (P.pages pages.old) (P.count pages.old)
+            → AsksOnly (map_uses numbers_form (P.pages pages.old) self.now.numbers) (P.asked pages.old) (P.asked pages.new) }
+        ensures fails { FailsReading P.Pages pages.old pages.new result }
+        ensures frame { Reads P.Pages pages.old pages.new }
+    {
+        match self.counted(pages, number)? {
+            Some(counted) => Ok(counted.places),
+            None => Ok(0),
         }
     }
 

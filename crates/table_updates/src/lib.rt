@@ -8,10 +8,10 @@
 //! The words of a batch are gathered ([`gather_words`]) and held ahead, each once by as many places as put it ([`hold_words`]). Then
 //! [`put_in_batch`] puts each place by the numbers in memory (`store_model/specs/Ahead.antt`).
 //!
-//! [`carry_over`] moves the places of a store of version 1 to version 2. Both versions have the same tables of words, the same tree with its
-//! rows, and the same fields of page 0. In version 1 the place map has another number, and its rows have no label. `specs/Version1.antt`
-//! defines which state such pages represent: each place has the empty label. After the call the pages represent the same state in version 2
-//! (`store_model/specs/Stands.antt`).
+//! [`carry_over`] moves the places of a store of version 1 to version 2. Both versions have the same tables of words, the same tree with
+//! its rows, and the same fields of page 0. In version 1 the place map has another number, and its rows have no label.
+//! `specs/Version1.antt` defines which state such pages represent: each place has the empty label. After the call the pages represent the
+//! same state in version 2 (`store_model/specs/Stands.antt`).
 //!
 //! Tests: `search_tests/src/table_updates_tests.rt`, `irtree_tests/src/upgrade_tests.rt`.
 #![tactic(auto)]

@@ -3,7 +3,7 @@ ghost use Rattle.std.specs.Prelude.{IfOk};
 ghost use Rattle.place_values.specs.Update.{NamesText};
 
 use place_map::State;
-use place_values::{Answer, Applied, Chosen, Expr, Hit, Query, Terms, Update, Weights};
+use place_values::{Answer, Applied, Chosen, Expr, Hit, Query, Terms, Update, Weights, rarity};
 use spatial_base::{Key, Point, Rect};
 use std::alloc::{AllocError, Global};
 use std::fmt::Write;
@@ -142,6 +142,93 @@ fn a_group_is_the_cheapest_choice(rt: HostRuntime) -> Result<(), Fail> {
     for &(rows, texts, wanted) in &GROUPS {
         let query = group(alloc, texts)?;
         assert!(rt; is_answered(alloc, rows, query, wanted)?, "{wanted}");
+    }
+    Ok(())
+}
+
+// Places, the words of a gather query at 0 0, and its answer.
+static GATHERS: [(&[Row], &[&str], &str); 4] = [
+    // The nearest place for each word would cost three degrees in sum.
+    (
+        &[
+            ("m", 0, 20_000_000, "a b c"),
+            ("a1", 10_000_000, 0, "a"),
+            ("b1", 0, 10_000_000, "b"),
+            ("c1", -10_000_000, 0, "c"),
+        ],
+        &["a", "b", "c"],
+        "20000000: a m 20000000, b m 20000000, c m 20000000, ",
+    ),
+    // A place that serves two of the words counts once beside another place.
+    (
+        &[
+            ("m", 0, 15_000_000, "a b"),
+            ("a1", 10_000_000, 0, "a"),
+            ("b1", 0, 10_000_000, "b"),
+            ("c1", -10_000_000, 0, "c"),
+        ],
+        &["a", "c", "b"],
+        "25000000: a m 15000000, c c1 10000000, b m 15000000, ",
+    ),
+    // Two choices have the same cost, and the lesser key decides.
+    (
+        &[
+            ("a2", -10_000_000, 0, "a"),
+            ("a1", 10_000_000, 0, "a"),
+            ("b1", 0, 0, "b"),
+        ],
+        &["b", "a"],
+        "10000000: b b1 0, a a1 10000000, ",
+    ),
+    (&[("m", 0, 10_000_000, "a b")], &["a", "z"], "none"),
+];
+
+// A gather query at 0 0.
+fn gather(alloc: Global, texts: &[&str]) -> Result<Query, Fail> {
+    let mut words = Vec::new(alloc);
+    for text in texts {
+        words.push(word(alloc, text)?)?;
+    }
+    Ok(Query::Gather {
+        at: Point::new(0, 0).ok_or("off the map")?,
+        scale: 1000,
+        words: Terms::from_vec(words),
+    })
+}
+
+#[test]
+fn gathered_places_cost_the_least_sum(rt: HostRuntime) -> Result<(), Fail> {
+    let alloc = rt.alloc();
+    for &(rows, texts, wanted) in &GATHERS {
+        let query = gather(alloc, texts)?;
+        assert!(rt; is_answered(alloc, rows, query, wanted)?, "{wanted}");
+    }
+    Ok(())
+}
+
+// How many places are live, how many of them have a word, and the word's weight.
+static RARITIES: [(u32, u32, u8); 12] = [
+    (7, 0, 1),
+    (0, 0, 1),
+    (7, 7, 1),
+    (7, 4, 1),
+    (8, 4, 2),
+    (7, 3, 2),
+    (7, 1, 3),
+    (8, 1, 4),
+    (1_000_000, 2, 19),
+    (1_000_000, 1, 20),
+    (524_287, 1, 19),
+    (u32::MAX, 1, 20),
+];
+
+#[test]
+fn a_weight_counts_how_often_the_holders_can_double(rt: HostRuntime) -> Result<(), Fail> {
+    for &(live, count, weight) in &RARITIES {
+        if count > live {
+            return Err(Fail::new("more holders than places"));
+        }
+        assert_eq!(rt; rarity(live, count), weight);
     }
     Ok(())
 }

@@ -171,6 +171,164 @@ bad range
 1 "scale" "g" 5.0000000
 "#;
 
+// Choices of least sum.
+static GATHERED: &str = r#"new
+> add m 0 2 a b c
+ok
+> add a1 1 0 a
+ok
+> add b1 0 1 b
+ok
+> add c1 -1 0 c
+ok
+> gather 0 0 words a b c
+= 3 2.0000000
+1 "a" "m" 2.0000000
+2 "b" "m" 2.0000000
+3 "c" "m" 2.0000000
+> gather 0 0 words a b
+= 2 2.0000000
+1 "a" "a1" 1.0000000
+2 "b" "b1" 1.0000000
+> gather 0 0 words b
+= 1 1.0000000
+1 "b" "b1" 1.0000000
+> gather 0 0 words a z
+none
+> gather 0 0 words "c"
+= 1 1.0000000
+1 "c" "c1" 1.0000000
+> gather 0 0 scale 500 words c a
+= 2 1.0000000
+1 "c" "c1" 0.5000000
+2 "a" "a1" 0.5000000
+> explain gather 0 0 scale 0 words a c
+= 2 0.0000000
+1 "a" "a1" 0.0000000 at 1.0000000 0.0000000
+2 "c" "c1" 0.0000000 at -1.0000000 0.0000000
+new
+> add market 0 2.5 flour eggs milk
+ok
+> add mill 1 0 flour
+ok
+> add farm 0 1 eggs
+ok
+> add dairy -1 0 milk
+ok
+> gather 0 0 words flour eggs milk
+= 3 2.5000000
+1 "flour" "market" 2.5000000
+2 "eggs" "market" 2.5000000
+3 "milk" "market" 2.5000000
+> gather 0 0 words flour milk
+= 2 2.0000000
+1 "flour" "mill" 1.0000000
+2 "milk" "dairy" 1.0000000
+> group 0 0 words flour milk
+= 2 2.5000000
+1 "flour" "market" 2.5000000
+2 "milk" "market" 2.5000000
+> gather 0 0 words gather
+none
+> gather 0 0
+bad missing
+> gather 0 0 words
+bad missing
+> gather 0 0 a
+bad extra
+> gather 0 0 2 words a
+bad extra
+> gather 0 0 idf words a
+bad extra
+> gather 0 0 words a*2
+bad word
+> gather 0 0 words a a
+bad word
+> gather 0 0 words a b c d e f g h i
+bad extra
+> gather 0 0 scale 1001 words a
+bad range
+> gather 0 words a
+bad number
+> explain gather 0 0 words a*2
+bad word
+> "gather" 0 0 words a
+bad command
+> Gather 0 0 words a
+bad command
+"#;
+
+// Top queries by rarity. Three of the four places have `cafe`, which weighs 1, and one has `bar`, which weighs 3.
+static RARE: &str = r#"new
+> add a 0 0 cafe
+ok
+> add b 0 0 cafe
+ok
+> add c 0 0 cafe
+ok
+> add d 0 0 bar
+ok
+> top 0 0 2 500 1 words cafe bar
+= 2
+1 "a" 1275000000000
+2 "b" 1275000000000
+> top 0 0 2 500 1 idf words cafe bar
+= 2
+1 "d" 1275000000000
+2 "a" 3825000000000
+> top 0 0 2 500 1 words cafe bar*3
+= 2
+1 "d" 1275000000000
+2 "a" 3825000000000
+> top 0 0 1 500 1 scale 500 idf words "bar"
+= 1
+1 "d" 0
+> top 0 0 1 500 1 idf words tea bar
+= 1
+1 "d" 1275000000000
+> top 0 0 1 500 1 idf words tea
+= 0
+> top 0 0 1 500 1 words idf
+= 0
+> add e 0 0 idf
+ok
+> top 0 0 1 500 1 words idf
+= 1
+1 "e" 0
+> top 0 0 1 500 1 idf words idf
+= 1
+1 "e" 0
+> explain top 0 0 1 500 1 words idf
+= 1
+1 "e" 0 at 0.0000000 0.0000000 dist 0.0000000 text 255 of 255
+> explain top 0 0 1 500 1 idf words cafe
+bad extra
+> top 0 0 1 500 1 idf words cafe*2
+bad word
+> top 0 0 1 500 1 idf words cafe cafe
+bad word
+> top 0 0 1 500 1 idf cafe
+bad extra
+> top 0 0 1 500 1 idf
+bad missing
+> top 0 0 1 500 1 idf words
+bad missing
+> top 0 0 1 500 1 idf idf words cafe
+bad extra
+> top 0 0 1 500 1 idf scale 500 words cafe
+bad extra
+> top 0 0 1 500 1 "idf" words cafe
+bad extra
+> top 0 0 1 500 1 IDF words cafe
+bad extra
+> top 0 0 1 500 idf 1 words cafe
+bad number
+> nearest 0 0 1 idf
+bad extra
+> group 0 0 idf words cafe
+bad extra
+"#;
+
 // The reply to an update.
 fn applied(state: &mut State, update: Update) -> Result<Reply, Fail>
     requires { NamesText update }
@@ -228,5 +386,17 @@ fn a_query_may_have_a_scale(rt: HostRuntime) -> Result<(), Fail> {
 #[test]
 fn a_scale_in_another_place_is_refused(rt: HostRuntime) -> Result<(), Fail> {
     assert!(rt; is_replied(rt.alloc(), REFUSED)?);
+    Ok(())
+}
+
+#[test]
+fn places_are_gathered_by_least_sum(rt: HostRuntime) -> Result<(), Fail> {
+    assert!(rt; is_replied(rt.alloc(), GATHERED)?);
+    Ok(())
+}
+
+#[test]
+fn a_rare_word_weighs_more(rt: HostRuntime) -> Result<(), Fail> {
+    assert!(rt; is_replied(rt.alloc(), RARE)?);
     Ok(())
 }

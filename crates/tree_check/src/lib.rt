@@ -10,10 +10,10 @@
 //! pages of the tree are handed on in a list, each after those below it.
 //!
 //! [`check_words`] goes over that list. For each node, word and slot the row must have the greatest impact of the word below the slot, and
-//! there must be no other row (Cong, Jensen and Wu, VLDB 2009). It compares the bytes of each slot with what is directly below it: in a leaf
-//! with the words of the slot's place, in an inner node with the greatest bytes of the child's rows. Since a child comes before its node,
-//! the first slot that differs is wrong, and not what it is compared with. The rows of a node are read once into memory, and the words of
-//! each slot are taken out of them there.
+//! there must be no other row (Cong, Jensen and Wu, VLDB 2009). It compares the bytes of each slot with what is directly below it: in a
+//! leaf with the words of the slot's place, in an inner node with the greatest bytes of the child's rows. Since a child comes before its
+//! node, the first slot that differs is wrong, and not what it is compared with. The rows of a node are read once into memory, and the
+//! words of each slot are taken out of them there.
 //!
 //! [`check_rows`] walks the rows' map itself, leaf by leaf. The map has to be whole, and each row has to name a node of the tree and not to
 //! be all zeros. The walk is one of `page_walks` with a [`Sink`](page_walks::Sink).
@@ -21,9 +21,9 @@
 //! What is right between each node and what is directly below it is right in the whole tree. `proofs/Joined.antt` shows that a well-formed
 //! tree whose nodes are so is well formed with its rows, as `irtree_shape` defines it.
 //!
-//! `sizes` has laws about how large a tree is by the number of its entries, as contracts of calls that do nothing. A well-formed tree of `n`
-//! entries has at most `(n + 10) / 11` nodes, and uses a page for each. One whose root is at level `l` has at least `12^l` entries, so with
-//! fewer than 2^32 entries the root is at most at level 8. No call of the program uses them yet.
+//! `sizes` has laws about how large a tree is by the number of its entries, as contracts of calls that do nothing. A well-formed tree of
+//! `n` entries has at most `(n + 10) / 11` nodes, and uses a page for each. One whose root is at level `l` has at least `12^l` entries, so
+//! with fewer than 2^32 entries the root is at most at level 8. No call of the program uses them yet.
 //!
 //! Tests: `irtree_tests/src/verify_tests.rt`, with a store for each rule.
 #![tactic(auto)]

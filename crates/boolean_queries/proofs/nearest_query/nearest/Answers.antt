@@ -23,12 +23,8 @@ use Rattle.best_first.specs.NodeOpenings.{StandsIn, opened_in, started_in}
 use Rattle.best_first.specs.Laws.{near-first}
 use Rattle.best_first.proofs.Outcomes.{ok-weaker}
 use Rattle.boolean_queries.specs.Opens.{filter_in}
+use Rattle.boolean_queries.proofs.Limited.{same-filter}
 use Rattle.boolean_queries.proofs.nearest_query.nearest.Goals as goal
-
--- the filter that is lent is one and the same to a search and to a walk
-same-filter : (filter : Option (Bor Expr)) → filter_of filter ≡ filter_in filter
-same-filter None = refl
-same-filter (Some lent) = refl
 
 pub returns-clause-found : goal.returns-clause-found
 returns-clause-found g c = λ fits.

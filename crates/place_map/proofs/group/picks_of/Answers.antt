@@ -1,7 +1,9 @@
-use Rattle.std.proofs.Common.{◌++◌, ◌∷◌, [], sym, ap, ◌∙◌}
+use Rattle.std.proofs.Common.{◌≤◌, ◌++◌, ◌∷◌, [], sym, ap, ◌∙◌}
 use Rattle.spatial_base.specs.Key.{Name}
 use Rattle.place_values.specs.declared.place.Place.{Place}
 use Rattle.place_values.specs.Group.{word_picks}
+use Rattle.place_values.specs.declared.query.Pick.{Pick}
+use Rattle.place_map.proofs.Nears.{all_pushed}
 use Rattle.place_map.proofs.Picks.{pick_at, picked, not_picked}
 use Rattle.place_map.proofs.Scans.{done_more, gives_none, gives_one}
 use Rattle.place_map.proofs.group.picks_of.Goals as goal
@@ -20,6 +22,7 @@ loop-key-preserved-in-Continue-1 c =
             ∙ ap (λ picks. picks ++ pick ∷ []) c.loop-key.invariant.2.2
             ∙ sym (gives_one (word_picks c.args.at.now c.args.word.now) done entry pick (picked c.args.at.now c.args.word.now entry c.dist.result (sym c.if-has.ensures) c.dist.ensures.value)),
       ),
+      all_pushed (λ (pick : Pick). pick.dist ≤ 2545584412) _ _ pick c.in_ok-push.ensures.items c.loop-key.invariant.3 c.dist.ensures.far,
     )
 
 pub loop-key-preserved : goal.loop-key-preserved
@@ -34,4 +37,5 @@ loop-key-preserved c =
         c.loop-key.invariant.2.2
             ∙ sym (gives_none (word_picks c.args.at.now c.args.word.now) done entry (not_picked c.args.at.now c.args.word.now entry (sym c.if-has.ensures))),
       ),
+      c.loop-key.invariant.3,
     )

@@ -1,4 +1,4 @@
-use Rattle.std.proofs.Common.{◌≡◌, ℕ, ℤ, ◌<◌, ◌≤◌, List, Option, Vec, Global, sym, ap, subst, ◌∙◌, arith, unsigned_abs}
+use Rattle.std.proofs.Common.{◌≡◌, ⊎_elim, ℕ, ℤ, ◌<◌, ◌≤◌, List, [], Option, Vec, Global, sym, ap, subst, ◌∙◌, arith, unsigned_abs}
 use Rattle.std.specs.List.{flat_map}
 use Rattle.std.specs.Prelude.{IfOk}
 use Rattle.std.proofs.lemmas.Result.{IfOk-weaker}
@@ -7,7 +7,7 @@ use Rattle.page_face.specs.FreeList.{PageMap}
 use Rattle.place_values.specs.declared.hit.Hit.{Hit}
 use Rattle.place_values.specs.declared.query.Expr.{Expr}
 use Rattle.place_values.specs.declared.query.Query.{Query}
-use Rattle.place_values.specs.declared.query.Query.TheVariants.{Range, Inside, Nearest, Top}
+use Rattle.place_values.specs.declared.query.Query.TheVariants.{Range, Inside, Nearest, Top, Rare, Group, Gather}
 use Rattle.place_values.specs.Query.{IsWithinLimits}
 use Rattle.place_values.specs.Top.{Weighted}
 use Rattle.boolean_queries.specs.Opens.{filter_in}
@@ -22,10 +22,19 @@ use Rattle.query_execution.specs.Answers.{cut_by, hits_by}
 use Rattle.query_execution.proofs.Members.{no-hits}
 use Rattle.query_execution.proofs.answering.tree_hits.Goals as goal
 
-pub returns-in-Group-clause-found : goal.returns-in-Group-clause-found
-returns-in-Group-clause-found g c = λ free whole told.
+pub returns-in-Rare-clause-found : goal.returns-in-Rare-clause-found
+returns-in-Rare-clause-found g c = λ free whole told.
+    let ids = c.args.ids.now in
     let entries = tree_places (nodes_in node_of (g.P.Pages.pages c.args.pages.now) c.args.tree.now.rows) c.args.tree.now.root in
-    subst (λ (q : Query). c.new.result.items ≡ cut_by q (flat_map (hits_by c.args.ids.now q) entries)) (sym c.in-Group.is) (c.new.ensures.items ∙ sym (no-hits entries))
+    let back : (q : Query) → cut_by q (flat_map (hits_by ids q) entries) ≡ [] → c.args.query.now ≡ q → c.new.result.items ≡ cut_by c.args.query.now (flat_map (hits_by ids c.args.query.now) entries) =
+    λ q none is. subst (λ (p : Query). c.new.result.items ≡ cut_by p (flat_map (hits_by ids p) entries)) (sym is) (c.new.ensures.items ∙ sym none) in
+    ⊎_elim
+    (λ rare. back (Rare rare.0 rare.1 rare.2 rare.3 rare.4 rare.5) (no-hits entries) rare.6)
+    (λ other. ⊎_elim
+    (λ group. back (Group group.0 group.1 group.2) (no-hits entries) group.3)
+    (λ gather. back (Gather gather.0 gather.1 gather.2) (no-hits entries) gather.3)
+    other)
+    c.in-Rare.is
 
 pub returns-in-Range-clause-opened : goal.returns-in-Range-clause-opened
 returns-in-Range-clause-opened g c = λ free whole told.

@@ -71,7 +71,7 @@ returns-in-Err-clause-kept g c = λ told.
     let image = (g.T.Disk.world c.args.engine.now.store.disk.now).seen in
     record {
       seen = (c.in-Err.ensures.rests told).seen;
-      met = subst (IsMetIn image) (sym c.ended_by.ensures) (met-engine image c.in-Err.fault (λ damage e. inl (c.in-Err.ensures.broken told damage (ap Err e))));
+      met = subst (IsMetIn image) (sym c.ended_by.ensures) (met-engine image c.in-Err.fault (λ damage e. inl (c.args.query, c.in-Err.ensures.broken told damage (ap Err e))));
     }
 
 pub returns-in-Err-clause-lacks : goal.returns-in-Err-clause-lacks

@@ -50,9 +50,9 @@ returns-clause-opened g c = λ t state holds.
     let found = c.in_ok-answer_in.ensures.opened state stand told in
     let same : ◌≡◌ {A = stores.Contents} (record { block = store.current; pages = held }) (record { block = c.args.self.now.store.current; pages = counted_pages c.args.self.now.store.current.counted (shown g.D.Disk.readable (applied (g.D.Disk.world c.args.self.now.store.disk.now).seen) c.args.self.now.store.overlay) }) =
     λ i. record { block = c.clear_log.ensures.current i; pages = counted_pages (c.clear_log.ensures.current i).counted (shown g.D.Disk.readable (applied (g.D.Disk.world (c.clear_log.ensures.disk i).now).seen) (c.clear_log.ensures.overlay i)) } in
-    subst (λ (s : stores.Contents). IsFoundByFew s.pages s.block query [] log c.in_ok-answer_in.field-0) same
-    (subst (λ (before : List ℕ). IsFoundByFew held store.current query before log c.in_ok-answer_in.field-0) c.clear_log.ensures.log
-    (subst (λ (h : Head). IsFoundByFew held (block_with store.current.counted store.current.first_free h) query store.asked.items log c.in_ok-answer_in.field-0) c.head-head.ensures found))
+    subst (λ (s : stores.Contents). IsFoundByFew s.pages s.block state query [] log c.in_ok-answer_in.field-0) same
+    (subst (λ (before : List ℕ). IsFoundByFew held store.current state query before log c.in_ok-answer_in.field-0) c.clear_log.ensures.log
+    (subst (λ (h : Head). IsFoundByFew held (block_with store.current.counted store.current.first_free h) state query store.asked.items log c.in_ok-answer_in.field-0) c.head-head.ensures found))
 
 pub returns-clause-opens_few : goal.returns-clause-opens_few
 returns-clause-opens_few g c = λ t state holds.
@@ -74,12 +74,12 @@ returns-clause-opens_few g c = λ t state holds.
     let same : ◌≡◌ {A = stores.Contents} (record { block = store.current; pages = pages }) held =
     committed-held g.D.Disk.readable (world store.disk.now) store.overlay store.current store.last store.end t clean settled (store.ready t on)
     ∙ (λ i. contents_held (world (c.clear_log.ensures.disk i).now).seen) in
-    let few : IsFoundByFew held.pages held.block query [] log answer =
-    subst (λ (s : stores.Contents). IsFoundByFew s.pages s.block query [] log answer) same
-    (subst (λ (before : List ℕ). IsFoundByFew pages store.current query before log answer) c.clear_log.ensures.log
-    (subst (λ (h : Head). IsFoundByFew pages (block_with store.current.counted store.current.first_free h) query store.asked.items log answer) c.head-head.ensures (c.in_ok-answer_in.ensures.opened state stand told))) in
+    let few : IsFoundByFew held.pages held.block state query [] log answer =
+    subst (λ (s : stores.Contents). IsFoundByFew s.pages s.block state query [] log answer) same
+    (subst (λ (before : List ℕ). IsFoundByFew pages store.current state query before log answer) c.clear_log.ensures.log
+    (subst (λ (h : Head). IsFoundByFew pages (block_with store.current.counted store.current.first_free h) state query store.asked.items log answer) c.head-head.ensures (c.in_ok-answer_in.ensures.opened state stand told))) in
     reads-logged held state query log (world c.args.self.now.store.disk.now) (world c.answer_in.new.pages.disk.now)
-    (subst (λ (a : Answer). IsFoundByFew held.pages held.block query [] log a) (c.in_ok-answer_in.ensures.answered state stand told) few)
+    (subst (λ (a : Answer). IsFoundByFew held.pages held.block state query [] log a) (c.in_ok-answer_in.ensures.answered state stand told) few)
     (logged g.D.Disk.readable world c.clear_log.ensures.disk c.clear_log.ensures.log c.answer_in.ensures.frame.only_reads t)
 
 pub returns-in_err-answer_in-clause-no_false_damage : goal.returns-in_err-answer_in-clause-no_false_damage
@@ -114,9 +114,9 @@ returns-in_err-answer_in-clause-damaged g c = λ t damage is.
     let found = c.answer_in.ensures.damaged told damage (c.in_err-answer_in.was ∙ ap Err (damaged-from _ damage was)) in
     let same : ◌≡◌ {A = stores.Contents} (record { block = store.current; pages = held }) (record { block = c.args.self.now.store.current; pages = counted_pages c.args.self.now.store.current.counted (shown g.D.Disk.readable (applied (g.D.Disk.world c.args.self.now.store.disk.now).seen) c.args.self.now.store.overlay) }) =
     λ i. record { block = c.clear_log.ensures.current i; pages = counted_pages (c.clear_log.ensures.current i).counted (shown g.D.Disk.readable (applied (g.D.Disk.world (c.clear_log.ensures.disk i).now).seen) (c.clear_log.ensures.overlay i)) } in
-    subst (λ (s : stores.Contents). IsQueryDamage s.pages s.block [] log damage) same
-    (subst (λ (before : List ℕ). IsQueryDamage held store.current before log damage) c.clear_log.ensures.log
-    (subst (λ (h : Head). IsQueryDamage held (block_with store.current.counted store.current.first_free h) store.asked.items log damage) c.head-head.ensures found))
+    subst (λ (s : stores.Contents). IsQueryDamage s.pages s.block c.args.query.now [] log damage) same
+    (subst (λ (before : List ℕ). IsQueryDamage held store.current c.args.query.now before log damage) c.clear_log.ensures.log
+    (subst (λ (h : Head). IsQueryDamage held (block_with store.current.counted store.current.first_free h) c.args.query.now store.asked.items log damage) c.head-head.ensures found))
 
 pub returns-in_err-answer_in-clause-broken : goal.returns-in_err-answer_in-clause-broken
 returns-in_err-answer_in-clause-broken g c = λ t damage is.
@@ -139,9 +139,9 @@ returns-in_err-answer_in-clause-broken g c = λ t damage is.
     ∙ (λ i. contents_held (world (c.clear_log.ensures.disk i).now).seen) in
     record {
       asked = log;
-      is = subst (λ (s : stores.Contents). IsQueryDamage s.pages s.block [] log damage) same
-          (subst (λ (before : List ℕ). IsQueryDamage pages store.current before log damage) c.clear_log.ensures.log
-          (subst (λ (h : Head). IsQueryDamage pages (block_with store.current.counted store.current.first_free h) store.asked.items log damage) c.head-head.ensures found));
+      is = subst (λ (s : stores.Contents). IsQueryDamage s.pages s.block c.args.query.now [] log damage) same
+          (subst (λ (before : List ℕ). IsQueryDamage pages store.current c.args.query.now before log damage) c.clear_log.ensures.log
+          (subst (λ (h : Head). IsQueryDamage pages (block_with store.current.counted store.current.first_free h) c.args.query.now store.asked.items log damage) c.head-head.ensures found));
     }
 
 pub returns-in_err-answer_in-clause-no_head : goal.returns-in_err-answer_in-clause-no_head
@@ -152,7 +152,7 @@ returns-in_err-answer_in-clause-no_head g c = λ t damage is.
     let fault_is = passed.2 in
     let was : fault_of_pages c.in_err-answer_in.field-0.0 ≡ Damaged damage = cc in
     let told = store-told g.D.Disk.readable (applied (g.D.Disk.world store.disk.now).seen) store.overlay store.current.counted t store.sized in
-    answer-spares_head _ _ (tables_in c.head-head.result) (tree_in c.head-head.result) _ _ damage (c.answer_in.ensures.damaged told damage (c.in_err-answer_in.was ∙ ap Err (damaged-from _ damage was)))
+    answer-spares_head _ _ c.head-head.result.live (tables_in c.head-head.result) (tree_in c.head-head.result) c.args.query.now _ _ damage (c.answer_in.ensures.damaged told damage (c.in_err-answer_in.was ∙ ap Err (damaged-from _ damage was)))
 
 pub returns-then-self-clause-log : goal.returns-then-self-clause-log
 returns-then-self-clause-log g c = logged-none g.D.Disk.readable g.D.Disk.world c.clear_log.ensures.disk c.clear_log.ensures.log c.clear_log.new.self.overlay

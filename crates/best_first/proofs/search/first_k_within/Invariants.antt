@@ -12,7 +12,7 @@ use Rattle.best_first.specs.Queue.{waiting}
 use Rattle.best_first.proofs.Steps.{Searching, work}
 use Rattle.best_first.proofs.Histories.{Underway}
 use Rattle.best_first.proofs.Levels.{IsLed}
-use Rattle.best_first.proofs.search.first_k.Given as goal
+use Rattle.best_first.proofs.search.first_k_within.Given as goal
 
 abbrev pub invariant-search : goal.invariant-search
 invariant-search g l = record {
@@ -28,7 +28,7 @@ invariant-search g l = record {
   faults : g.P.Pages.faults l.pages ≡ g.P.Pages.faults l.fn.pages;
   ranked : IsRanked comes_before l.found.items;
   short : length l.found.items ≤ l.k;
-  search : g.R.Ranked.fits l.fn.ranked l.fn.pages → Searching (g.R.Ranked.opens l.fn.ranked l.fn.pages) (leads (g.R.Ranked.opens l.fn.ranked l.fn.pages) (g.R.Ranked.starts l.fn.ranked l.fn.pages)) l.k l.found.items (waiting (heap_items l.queue.heap));
+  search : g.R.Ranked.fits l.fn.ranked l.fn.pages → Searching (g.R.Ranked.opens l.fn.ranked l.fn.pages) (leads (g.R.Ranked.opens l.fn.ranked l.fn.pages) (g.R.Ranked.starts l.fn.ranked l.fn.pages)) l.limit l.k l.found.items (waiting (heap_items l.queue.heap));
   history : g.R.Ranked.told l.fn.ranked l.fn.pages → Underway g.R.Ranked.stands (g.P.Pages.pages l.fn.pages) (g.R.Ranked.is_node l.fn.ranked l.fn.pages) (g.R.Ranked.fits l.fn.ranked l.fn.pages) (g.R.Ranked.opens l.fn.ranked l.fn.pages) (g.R.Ranked.starts l.fn.ranked l.fn.pages) (g.R.Ranked.root l.fn.ranked) (g.P.Pages.asked l.fn.pages) (g.P.Pages.asked l.pages) l.k l.found.items (waiting (heap_items l.queue.heap));
   led : g.R.Ranked.told l.fn.ranked l.fn.pages → AllByRecursion (IsLed g.R.Ranked.stands g.R.Ranked.has_level (g.P.Pages.pages l.fn.pages) (g.P.Pages.asked l.fn.pages) (g.P.Pages.asked l.pages)) (waiting (heap_items l.queue.heap));
 }

@@ -1,0 +1,15 @@
+pub mod Costs
+pub mod Joins
+pub mod Least
+pub mod Parts
+pub mod Masks
+pub mod SharedHits
+pub mod SharedLogs
+pub mod Shared
+pub mod Steps
+pub mod Held
+pub mod TreeSets
+pub mod Loops
+pub mod Firsts
+pub mod Tables
+pub mod Origins
