@@ -1,6 +1,7 @@
 pub mod Calls
 pub mod Changes
 pub mod Damages
+pub mod Engine
 pub mod Faults
 pub mod Holding
 pub mod Opening

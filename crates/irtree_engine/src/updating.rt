@@ -28,6 +28,8 @@ const TAKES_AN_UPDATE: u64 = 128;
 const TAKES_A_PAGE: u64 = 8;
 
 impl<'d, D: Station> Engine<'d, D> {
+    ghost use Rattle.irtree_engine.specs.Engine.{LeavesAlone, RaisesByAtMost, RefusesUpdates, StandsRefused, block_of, world_of};
+
     /// Stores one update in one commit, in the place table and in the tree. A removal of a key at which no place lives makes none. A key
     /// that a Put names is a text key.
     ///
@@ -50,38 +52,21 @@ impl<'d, D: Station> Engine<'d, D> {
     /// nothing there.
     pub fn apply(&mut self, update: &Update) -> Result<Applied, EngineFault>
         requires { NamesText update.now }
-        ensures same_loan { self.new.store.disk.ghost_name ≡ self.old.store.disk.ghost_name }
-        ensures applied { IsTrue D.readable → (state : Contents) → HoldsState (D.world self.old.store.disk.now) state
-            → IfOk result (λ applied. ((effect_of state update.now).answer ≡ Ok applied) × HoldsState (D.world self.new.store.disk.now) (effect_of state update.now).state) }
+        ensures frame { LeavesAlone self.old self.new }
+        ensures applied { IsTrue D.readable → (state : Contents) → HoldsState (world_of self.old) state
+            → IfOk result (λ applied. ((effect_of state update.now).answer ≡ Ok applied) × HoldsState (world_of self.new) (effect_of state update.now).state) }
 
         // A crash at any moment leaves the state before the update or the one after it.
-        ensures any_moment { IsTrue D.readable → (state : Contents) → HoldsState (D.world self.old.store.disk.now) state
-            → LeavesOnly (D.world self.old.store.disk.now) (D.world self.new.store.disk.now) (LeavesOneOf state (effect_of state update.now).state (D.world self.old.store.disk.now)) }
+        ensures any_moment { IsTrue D.readable → (state : Contents) → HoldsState (world_of self.old) state
+            → LeavesOnly (world_of self.old) (world_of self.new) (LeavesOneOf state (effect_of state update.now).state (world_of self.old)) }
+        ensures rises { RaisesByAtMost 1 self.old self.new }
 
-        ensures due { IsTrue D.readable → (state : Contents) → HoldsState (D.world self.old.store.disk.now) state → IfErr result (IsDueTo (effect_of state update.now).answer) }
-        ensures limits { IfErr result (IsAtLimit self.old.store.current.head.live self.old.store.current.head.number) }
-        ensures no_head { IsTrue D.readable → (damage : Damage) → IsErrOf result (EngineFault.Damaged damage) → damage.rule ≢ Rule.Head }
-        ensures stopped { IsErrOf result EngineFault.Stopped ↔ IsTrue self.old.stopped }
-        ensures causes { IfErr result IsUpdateFault }
-        ensures disk { IsErrOf result EngineFault.Disk → worlds.Rose (D.world self.old.store.disk.now).faults (D.world self.new.store.disk.now).faults }
-        ensures stays { result ≢ Err EngineFault.Disk → (D.world self.new.store.disk.now).faults ≡ (D.world self.old.store.disk.now).faults }
-        ensures no_room { IsErrOf result EngineFault.NoRoom → Rose self.old.store.refused self.new.store.refused }
-        ensures room_left { IsErrOf result EngineFault.NoRoom → LacksRoom 1 (D.room_of self.old.store.disk.now) self.old.store.current.counted }
-        ensures free_left { IsErrOf result EngineFault.NoRoom → LacksPages 1 (D.room_of self.old.store.disk.now) (⟦<Store<'d, D> as Pages>⟧.pages self.new.store) self.old.store.current.counted self.old.store.current.first_free }
-        ensures as_before { IsErrOf result EngineFault.NoRoom → self.new.store.current ≡ self.old.store.current }
-
-        // After a refusal that doesn't stop the engine the image is as before. Nothing is committed for a removal of a key that isn't
-        // there.
-        ensures rests { IsTrue D.readable → OnErr result (self.new.stopped ≡ self.old.stopped → Rests (D.world self.old.store.disk.now) (D.world self.new.store.disk.now)) }
-        ensures absent { IsTrue D.readable → IfOk result (λ applied. applied ≡ Applied.Absent → Rests (D.world self.old.store.disk.now) (D.world self.new.store.disk.now)) }
-        ensures goes_on { result ≢ Err EngineFault.Disk → self.new.stopped ≡ self.old.stopped }
-        ensures silent { IsTrue D.readable → (D.world self.new.store.disk.now).said ≡ (D.world self.old.store.disk.now).said }
-        ensures later { (D.world self.old.store.disk.now).faults ≤ (D.world self.new.store.disk.now).faults }
-        ensures sink { (D.world self.new.store.disk.now).sink_faults ≡ (D.world self.old.store.disk.now).sink_faults }
-        ensures refused { self.old.store.refused ≤ self.new.store.refused }
-        ensures room { D.room_of self.new.store.disk.now ≡ D.room_of self.old.store.disk.now }
-        ensures rises { (self.new.store.current.head.live ≤ self.old.store.current.head.live + 1) × (self.new.store.current.head.number ≤ self.old.store.current.head.number + 1) }
-        ensures emptied { IsErrOf result EngineFault.Stopped → self.new.store.asked.items ≡ [] }
+        // Nothing is committed for a removal of a key that isn't there.
+        ensures absent { IsTrue D.readable → IfOk result (λ applied. applied ≡ Applied.Absent → Rests (world_of self.old) (world_of self.new)) }
+        ensures fails { RefusesUpdates 1 self.old self.new result }
+        ensures due { IsTrue D.readable → (state : Contents) → HoldsState (world_of self.old) state → IfErr result (IsDueTo (effect_of state update.now).answer) }
+        ensures limits { IfErr result (IsAtLimit (block_of self.old).head.live (block_of self.old).head.number) }
+        ensures refused { StandsRefused self.old self.new result }
     {
         match begin(&mut self.store, self.stopped, 1) {
             Ok(()) => {}
@@ -123,36 +108,18 @@ impl<'d, D: Station> Engine<'d, D> {
     pub fn apply_batch(&mut self, updates: &[Update]) -> Result<(), EngineFault>
         requires few { length updates.now ≤ 10000 }
         requires keys { AllByRecursion NamesText updates.now }
-        ensures same_loan { self.new.store.disk.ghost_name ≡ self.old.store.disk.ghost_name }
-        ensures applied { IsTrue D.readable → (state : Contents) → HoldsState (D.world self.old.store.disk.now) state
-            → OnOk result (StandsForOutcome (state_after_all state updates.now) (D.world self.new.store.disk.now).seen) }
+        ensures frame { LeavesAlone self.old self.new }
+        ensures applied { IsTrue D.readable → (state : Contents) → HoldsState (world_of self.old) state
+            → OnOk result (StandsForOutcome (state_after_all state updates.now) (world_of self.new).seen) }
 
         // A crash at any moment leaves the state before the updates or the one after all of them.
-        ensures any_moment { IsTrue D.readable → (state : Contents) → HoldsState (D.world self.old.store.disk.now) state
-            → LeavesOnly (D.world self.old.store.disk.now) (D.world self.new.store.disk.now) (LeavesAllOrNone state updates.now (D.world self.old.store.disk.now)) }
-
-        ensures due { IsTrue D.readable → (state : Contents) → HoldsState (D.world self.old.store.disk.now) state → IfErr result (IsDueTo (state_after_all state updates.now)) }
-        ensures limits { IfErr result (IsAtLimit (self.old.store.current.head.live + length updates.now) (self.old.store.current.head.number + length updates.now)) }
-        ensures no_head { IsTrue D.readable → (damage : Damage) → IsErrOf result (EngineFault.Damaged damage) → damage.rule ≢ Rule.Head }
-        ensures stopped { IsErrOf result EngineFault.Stopped ↔ IsTrue self.old.stopped }
-        ensures causes { IfErr result IsUpdateFault }
-        ensures disk { IsErrOf result EngineFault.Disk → worlds.Rose (D.world self.old.store.disk.now).faults (D.world self.new.store.disk.now).faults }
-        ensures stays { result ≢ Err EngineFault.Disk → (D.world self.new.store.disk.now).faults ≡ (D.world self.old.store.disk.now).faults }
-        ensures no_room { IsErrOf result EngineFault.NoRoom → Rose self.old.store.refused self.new.store.refused }
-        ensures room_left { IsErrOf result EngineFault.NoRoom → LacksRoom (length updates.now) (D.room_of self.old.store.disk.now) self.old.store.current.counted }
-        ensures free_left { IsErrOf result EngineFault.NoRoom → LacksPages (length updates.now) (D.room_of self.old.store.disk.now) (⟦<Store<'d, D> as Pages>⟧.pages self.new.store) self.old.store.current.counted self.old.store.current.first_free }
-        ensures as_before { IsErrOf result EngineFault.NoRoom → self.new.store.current ≡ self.old.store.current }
-
-        // After a refusal that doesn't stop the engine the image is as before.
-        ensures rests { IsTrue D.readable → OnErr result (self.new.stopped ≡ self.old.stopped → Rests (D.world self.old.store.disk.now) (D.world self.new.store.disk.now)) }
-        ensures goes_on { result ≢ Err EngineFault.Disk → self.new.stopped ≡ self.old.stopped }
-        ensures silent { IsTrue D.readable → (D.world self.new.store.disk.now).said ≡ (D.world self.old.store.disk.now).said }
-        ensures later { (D.world self.old.store.disk.now).faults ≤ (D.world self.new.store.disk.now).faults }
-        ensures sink { (D.world self.new.store.disk.now).sink_faults ≡ (D.world self.old.store.disk.now).sink_faults }
-        ensures refused { self.old.store.refused ≤ self.new.store.refused }
-        ensures room { D.room_of self.new.store.disk.now ≡ D.room_of self.old.store.disk.now }
-        ensures rises { (self.new.store.current.head.live ≤ self.old.store.current.head.live + length updates.now) × (self.new.store.current.head.number ≤ self.old.store.current.head.number + length updates.now) }
-        ensures emptied { IsErrOf result EngineFault.Stopped → self.new.store.asked.items ≡ [] }
+        ensures any_moment { IsTrue D.readable → (state : Contents) → HoldsState (world_of self.old) state
+            → LeavesOnly (world_of self.old) (world_of self.new) (LeavesAllOrNone state updates.now (world_of self.old)) }
+        ensures rises { RaisesByAtMost (length updates.now) self.old self.new }
+        ensures fails { RefusesUpdates (length updates.now) self.old self.new result }
+        ensures due { IsTrue D.readable → (state : Contents) → HoldsState (world_of self.old) state → IfErr result (IsDueTo (state_after_all state updates.now)) }
+        ensures limits { IfErr result (IsAtLimit ((block_of self.old).head.live + length updates.now) ((block_of self.old).head.number + length updates.now)) }
+        ensures refused { StandsRefused self.old self.new result }
     {
         match begin(&mut self.store, self.stopped, updates.len()) {
             Ok(()) => {}

@@ -15,9 +15,9 @@ use Rattle.script_run.proofs.line.update.Goals as goal
 pub returns-in-Ok-clause-told : goal.returns-in-Ok-clause-told
 returns-in-Ok-clause-told g c =
     let accepted : AcceptedUpdate g.T.Disk.readable c.args.update.now (g.T.Disk.world c.args.engine.now.store.disk.now) (g.T.Disk.world c.apply.new.self.store.disk.now) c.in-Ok.applied = record {
-      faults = c.in-Ok.ensures.stays (λ e. absurd (cc));
-      sink = c.in-Ok.ensures.sink;
-      said = c.in-Ok.ensures.silent;
+      faults = c.in-Ok.ensures.fails.stays (λ e. absurd (cc));
+      sink = c.in-Ok.ensures.frame.sink;
+      said = c.in-Ok.ensures.frame.silent;
       stands = c.in-Ok.ensures.applied;
       left_by = c.in-Ok.ensures.any_moment;
     } in
@@ -26,9 +26,9 @@ returns-in-Ok-clause-told g c =
 pub returns-in-Ok-clause-cause : goal.returns-in-Ok-clause-cause
 returns-in-Ok-clause-cause g c =
     let accepted : AcceptedUpdate g.T.Disk.readable c.args.update.now (g.T.Disk.world c.args.engine.now.store.disk.now) (g.T.Disk.world c.apply.new.self.store.disk.now) c.in-Ok.applied = record {
-      faults = c.in-Ok.ensures.stays (λ e. absurd (cc));
-      sink = c.in-Ok.ensures.sink;
-      said = c.in-Ok.ensures.silent;
+      faults = c.in-Ok.ensures.fails.stays (λ e. absurd (cc));
+      sink = c.in-Ok.ensures.frame.sink;
+      said = c.in-Ok.ensures.frame.silent;
       stands = c.in-Ok.ensures.applied;
       left_by = c.in-Ok.ensures.any_moment;
     } in
@@ -37,16 +37,16 @@ returns-in-Ok-clause-cause g c =
 pub returns-in-Err-clause-told : goal.returns-in-Err-clause-told
 returns-in-Err-clause-told g c =
     let refused : RefusedUpdate g.T.Disk.readable c.args.update.now (g.T.Disk.world c.args.engine.now.store.disk.now) (g.T.Disk.world c.apply.new.self.store.disk.now) c.in-Err.fault = record {
-      causes = c.in-Err.ensures.causes;
-      faults = c.in-Err.ensures.later;
-      sink = c.in-Err.ensures.sink;
-      on = λ e. let stopped : true ≡ false = sym (c.in-Err.ensures.stopped.0 (ap Err e)) ∙ c.requires.on in cc;
-      disk = λ e. c.in-Err.ensures.disk (ap Err e);
-      stays = λ apart. c.in-Err.ensures.stays (λ e. apart (cc));
-      said = c.in-Err.ensures.silent;
+      causes = c.in-Err.ensures.fails.causes;
+      faults = c.in-Err.ensures.frame.later;
+      sink = c.in-Err.ensures.frame.sink;
+      on = λ e. let stopped : true ≡ false = sym (c.in-Err.ensures.fails.stopped.0 (ap Err e)) ∙ c.requires.on in cc;
+      disk = λ e. c.in-Err.ensures.fails.disk (ap Err e);
+      stays = λ apart. c.in-Err.ensures.fails.stays (λ e. apart (cc));
+      said = c.in-Err.ensures.frame.silent;
       due = c.in-Err.ensures.due;
-      no_head = λ told damage e. c.in-Err.ensures.no_head told damage (ap Err e);
-      rests = λ told apart. c.in-Err.ensures.rests told (c.in-Err.ensures.goes_on (λ e. apart (cc)));
+      no_head = λ told damage e. c.in-Err.ensures.fails.no_head told damage (ap Err e);
+      rests = λ told apart. c.in-Err.ensures.refused.rests told (c.in-Err.ensures.refused.goes_on (λ e. apart (cc)));
       left_by = c.in-Err.ensures.any_moment;
     } in
     λ told state holds. subst (λ (r : Result Reply Ended). RepliesTo state (Ok (lines.Do c.args.update.now)) (g.T.Disk.world c.args.engine.now.store.disk.now) (g.T.Disk.world c.apply.new.self.store.disk.now) r) (sym c.refused.ensures.reply)
@@ -55,16 +55,16 @@ returns-in-Err-clause-told g c =
 pub returns-in-Err-clause-cause : goal.returns-in-Err-clause-cause
 returns-in-Err-clause-cause g c =
     let refused : RefusedUpdate g.T.Disk.readable c.args.update.now (g.T.Disk.world c.args.engine.now.store.disk.now) (g.T.Disk.world c.apply.new.self.store.disk.now) c.in-Err.fault = record {
-      causes = c.in-Err.ensures.causes;
-      faults = c.in-Err.ensures.later;
-      sink = c.in-Err.ensures.sink;
-      on = λ e. let stopped : true ≡ false = sym (c.in-Err.ensures.stopped.0 (ap Err e)) ∙ c.requires.on in cc;
-      disk = λ e. c.in-Err.ensures.disk (ap Err e);
-      stays = λ apart. c.in-Err.ensures.stays (λ e. apart (cc));
-      said = c.in-Err.ensures.silent;
+      causes = c.in-Err.ensures.fails.causes;
+      faults = c.in-Err.ensures.frame.later;
+      sink = c.in-Err.ensures.frame.sink;
+      on = λ e. let stopped : true ≡ false = sym (c.in-Err.ensures.fails.stopped.0 (ap Err e)) ∙ c.requires.on in cc;
+      disk = λ e. c.in-Err.ensures.fails.disk (ap Err e);
+      stays = λ apart. c.in-Err.ensures.fails.stays (λ e. apart (cc));
+      said = c.in-Err.ensures.frame.silent;
       due = c.in-Err.ensures.due;
-      no_head = λ told damage e. c.in-Err.ensures.no_head told damage (ap Err e);
-      rests = λ told apart. c.in-Err.ensures.rests told (c.in-Err.ensures.goes_on (λ e. apart (cc)));
+      no_head = λ told damage e. c.in-Err.ensures.fails.no_head told damage (ap Err e);
+      rests = λ told apart. c.in-Err.ensures.refused.rests told (c.in-Err.ensures.refused.goes_on (λ e. apart (cc)));
       left_by = c.in-Err.ensures.any_moment;
     } in
     subst (λ (r : Result Reply Ended). HasEngineEnd g.T.Disk.readable (g.T.Disk.world c.args.engine.now.store.disk.now) (g.T.Disk.world c.apply.new.self.store.disk.now) r) (sym c.refused.ensures.reply)
@@ -79,11 +79,11 @@ returns-in-Err-clause-lacks g c = λ told is.
     let was = c.in-Err.ensures in
     let new = c.apply.new.self in
     let apart : c.in-Err.fault ≡ engine.Disk → ⊥ = λ e. let both : engine.NoRoom ≡ engine.Disk = sym no ∙ e in absurd (cc) in
-    let on = sym new.stops ∙ was.goes_on (λ e. apart (cc)) ∙ c.requires.on in
-    lacks-image 1 1 _ _ c.args.engine.now.store.current g.T.Disk.readable (g.T.Disk.world new.store.disk.now) new.store.current new.store.last new.store.overlay new.store.end told (omega arith) was.room (was.as_before (ap Err no))
-    new.clean new.settled (new.store.ready told on) (was.room_left (ap Err no)) (was.free_left (ap Err no))
+    let on = sym new.stops ∙ was.refused.goes_on (λ e. apart (cc)) ∙ c.requires.on in
+    lacks-image 1 1 _ _ c.args.engine.now.store.current g.T.Disk.readable (g.T.Disk.world new.store.disk.now) new.store.current new.store.last new.store.overlay new.store.end told (omega arith) was.frame.room (was.refused.as_before (ap Err no))
+    new.clean new.settled (new.store.ready told on) (was.fails.room_left (ap Err no)) (was.fails.free_left (ap Err no))
 
 pub returns-in-Err-clause-goes_on : goal.returns-in-Err-clause-goes_on
 returns-in-Err-clause-goes_on g c =
     subst (λ (r : Result Reply Ended). GoesOn c.apply.new.self.stopped r) (sym c.refused.ensures.reply)
-    (refused-goes_on c.apply.new.self.stopped c.in-Err.fault (λ apart. c.in-Err.ensures.goes_on (λ e. apart (cc)) ∙ c.requires.on))
+    (refused-goes_on c.apply.new.self.stopped c.in-Err.fault (λ apart. c.in-Err.ensures.refused.goes_on (λ e. apart (cc)) ∙ c.requires.on))

@@ -1,4 +1,4 @@
-use Rattle.std.proofs.Common.{◌≡◌, ◌∙◌, ap, sym, subst}
+use Rattle.std.proofs.Common.{◌≡◌, ◌∙◌, ap, sym, subst, rules}
 use Rattle.disk_model.specs.World.{LeavesOnly}
 use Rattle.page_journal.specs.Record.{applied}
 use Rattle.page_face.specs.FreeList.{PageMap}
@@ -89,12 +89,15 @@ returns-in-Err-commit-clause-any_moment g c = λ t state holds.
     (c.commit.ensures.any_moment t state (effect_of state c.args.update.now).state holds_mid updated.1))
 
 pub returns-in-Err-clause-rises : goal.returns-in-Err-clause-rises
-returns-in-Err-clause-rises g c = head-stays 1 _ _ (ap (λ (b : Superblock). b.head) c.begin.ensures.current)
+returns-in-Err-clause-rises g c =
+    let both = head-stays 1 _ _ (ap (λ (b : Superblock). b.head) c.begin.ensures.current) in
+    record { live = both.0; number = both.1 }
 
 pub returns-in-Err-update-clause-rises : goal.returns-in-Err-update-clause-rises
 returns-in-Err-update-clause-rises g c =
     let last = ap (λ (k : Kept). k.last) c.update.ensures.frame.follows.kept ∙ c.begin.ensures.last ∙ sym c.args.self.now.settled in
-    head-stays 1 _ _ (ap (λ (b : Superblock). b.head) (c.abandon.ensures.current ∙ last))
+    let both = head-stays 1 _ _ (ap (λ (b : Superblock). b.head) (c.abandon.ensures.current ∙ last)) in
+    record { live = both.0; number = both.1 }
 
 pub returns-in-Ok-commit-clause-rises : goal.returns-in-Ok-commit-clause-rises
 returns-in-Ok-commit-clause-rises g c =
@@ -102,7 +105,8 @@ returns-in-Ok-commit-clause-rises g c =
     let from = c.head-head.ensures ∙ ap (λ (b : Superblock). b.head) c.begin.ensures.current in
     let old = c.args.self.now.store.current.head in
     let within = made-from 1 old c.head-head.result c.update.new.head from c.update.ensures.one_more in
-    head-rises 1 old c.update.new.pages.last.head c.update.new.head c.commit.new.store.current.head (ap (λ (b : Superblock). b.head) last) within c.commit.ensures.new_head
+    let both = head-rises 1 old c.update.new.pages.last.head c.update.new.head c.commit.new.store.current.head (ap (λ (b : Superblock). b.head) last) within c.commit.ensures.new_head in
+    record { live = both.0; number = both.1 }
 
 pub returns-in-Err-commit-clause-rises : goal.returns-in-Err-commit-clause-rises
 returns-in-Err-commit-clause-rises g c =
@@ -110,28 +114,38 @@ returns-in-Err-commit-clause-rises g c =
     let from = c.head-head.ensures ∙ ap (λ (b : Superblock). b.head) c.begin.ensures.current in
     let old = c.args.self.now.store.current.head in
     let within = made-from 1 old c.head-head.result c.update.new.head from c.update.ensures.one_more in
-    head-rises 1 old c.update.new.pages.last.head c.update.new.head c.commit.new.store.current.head (ap (λ (b : Superblock). b.head) last) within c.commit.ensures.new_head
-
-pub returns-in-Err-update-clause-room_left : goal.returns-in-Err-update-clause-room_left
-returns-in-Err-update-clause-room_left g c = λ is.
-    let old = c.args.self.now.store in
-    let allowed = c.begin.new.store in
-    let mid = c.update.new.pages in
-    room-left (g.D.Disk.room_of old.disk.now) old.current.counted old.refused (most_takes 1 old.current.counted) (g.D.Disk.room_of allowed.disk.now)
-    (counts_of allowed.current.counted allowed.takes_left allowed.refused) (counts_of mid.current.counted mid.takes_left mid.refused)
-    (λ i. g.D.Disk.room_of (c.begin.ensures.disk i).now) (λ i. (c.begin.ensures.current i).counted) c.begin.ensures.refused c.in-Ok.ensures.takes
-    c.update.ensures.frame.follows.takes c.in-Ok.ensures.counts (c.in-Err-update.ensures.fails.full is)
-
-pub returns-in-Err-update-clause-as_before : goal.returns-in-Err-update-clause-as_before
-returns-in-Err-update-clause-as_before g c = λ is.
-    c.abandon.ensures.current ∙ ap (λ (k : Kept). k.last) c.update.ensures.frame.follows.kept ∙ c.begin.ensures.last ∙ sym c.args.self.now.settled
+    let both = head-rises 1 old c.update.new.pages.last.head c.update.new.head c.commit.new.store.current.head (ap (λ (b : Superblock). b.head) last) within c.commit.ensures.new_head in
+    record { live = both.0; number = both.1 }
 
 pub update-requires-clause-numbers : goal.update-requires-clause-numbers
 update-requires-clause-numbers g c = subst AreHeadNumbers (sym (c.head-head.ensures ∙ ap (λ (b : Superblock). b.head) c.begin.ensures.current)) c.args.self.now.numbers
 
-pub returns-in-Err-update-clause-no_head : goal.returns-in-Err-update-clause-no_head
-returns-in-Err-update-clause-no_head g c = λ t damage is.
-    c.in-Err-update.ensures.no_head (λ p. store-told g.D.Disk.readable (applied (g.D.Disk.world p.disk.now).seen) p.overlay p.current.counted t p.sized) damage is
+pub returns-in-Err-update-clause-fails : goal.returns-in-Err-update-clause-fails
+returns-in-Err-update-clause-fails g c =
+    let old = c.args.self.now.store in
+    let allowed = c.begin.new.store in
+    let mid = c.update.new.pages in
+    record {
+      causes = search rules;
+      stopped = search rules;
+      emptied = search rules;
+      disk = search rules;
+      stays = search rules;
+      no_head = λ t damage is. c.in-Err-update.ensures.no_head (λ p. store-told g.D.Disk.readable (applied (g.D.Disk.world p.disk.now).seen) p.overlay p.current.counted t p.sized) damage is;
+      no_room = search rules;
+      room_left = λ is. room-left (g.D.Disk.room_of old.disk.now) old.current.counted old.refused (most_takes 1 old.current.counted) (g.D.Disk.room_of allowed.disk.now)
+          (counts_of allowed.current.counted allowed.takes_left allowed.refused) (counts_of mid.current.counted mid.takes_left mid.refused)
+          (λ i. g.D.Disk.room_of (c.begin.ensures.disk i).now) (λ i. (c.begin.ensures.current i).counted) c.begin.ensures.refused c.in-Ok.ensures.takes
+          c.update.ensures.frame.follows.takes c.in-Ok.ensures.counts (c.in-Err-update.ensures.fails.full is);
+      free_left = search rules;
+    }
+
+pub returns-in-Err-update-clause-refused : goal.returns-in-Err-update-clause-refused
+returns-in-Err-update-clause-refused g c = record {
+  goes_on = search rules;
+  rests = search rules;
+  as_before = λ is. c.abandon.ensures.current ∙ ap (λ (k : Kept). k.last) c.update.ensures.frame.follows.kept ∙ c.begin.ensures.last ∙ sym c.args.self.now.settled;
+}
 
 pub returns-in-Ok-commit-clause-absent : goal.returns-in-Ok-commit-clause-absent
 returns-in-Ok-commit-clause-absent g c = λ t is.

@@ -1,4 +1,4 @@
-use Rattle.std.proofs.Common.{length, ◌∙◌, ap, sym, subst}
+use Rattle.std.proofs.Common.{length, ◌∙◌, ap, sym, subst, rules}
 use Rattle.std.proofs.lemmas.Result.{on_ok_weaker}
 use Rattle.disk_model.specs.World.{LeavesOnly}
 use Rattle.page_journal.specs.Record.{applied}
@@ -72,12 +72,15 @@ returns-clause-any_moment g c = λ t state holds.
     (c.commit.ensures.any_moment t state outcome.0 holds_mid outcome.2)))
 
 pub returns-in-Err-clause-rises : goal.returns-in-Err-clause-rises
-returns-in-Err-clause-rises g c = head-stays (length c.args.updates.now) _ _ (ap (λ (b : Superblock). b.head) c.begin.ensures.current)
+returns-in-Err-clause-rises g c =
+    let both = head-stays (length c.args.updates.now) _ _ (ap (λ (b : Superblock). b.head) c.begin.ensures.current) in
+    record { live = both.0; number = both.1 }
 
 pub returns-in-Err-update_all-clause-rises : goal.returns-in-Err-update_all-clause-rises
 returns-in-Err-update_all-clause-rises g c =
     let last = ap (λ (k : Kept). k.last) c.update_all.ensures.frame.follows.kept ∙ c.begin.ensures.last ∙ sym c.args.self.now.settled in
-    head-stays (length c.args.updates.now) _ _ (ap (λ (b : Superblock). b.head) (c.abandon.ensures.current ∙ last))
+    let both = head-stays (length c.args.updates.now) _ _ (ap (λ (b : Superblock). b.head) (c.abandon.ensures.current ∙ last)) in
+    record { live = both.0; number = both.1 }
 
 pub returns-clause-rises : goal.returns-clause-rises
 returns-clause-rises g c =
@@ -85,28 +88,38 @@ returns-clause-rises g c =
     let from = c.head-head.ensures ∙ ap (λ (b : Superblock). b.head) c.begin.ensures.current in
     let old = c.args.self.now.store.current.head in
     let within = made-from (length c.args.updates.now) old c.head-head.result c.update_all.new.head from c.update_all.ensures.one_more_each in
-    head-rises (length c.args.updates.now) old c.update_all.new.pages.last.head c.update_all.new.head c.commit.new.store.current.head (ap (λ (b : Superblock). b.head) last) within c.commit.ensures.new_head
-
-pub returns-in-Err-update_all-clause-room_left : goal.returns-in-Err-update_all-clause-room_left
-returns-in-Err-update_all-clause-room_left g c = λ is.
-    let old = c.args.self.now.store in
-    let allowed = c.begin.new.store in
-    let mid = c.update_all.new.pages in
-    room-left (g.D.Disk.room_of old.disk.now) old.current.counted old.refused (most_takes (length c.args.updates.now) old.current.counted) (g.D.Disk.room_of allowed.disk.now)
-    (counts_of allowed.current.counted allowed.takes_left allowed.refused) (counts_of mid.current.counted mid.takes_left mid.refused)
-    (λ i. g.D.Disk.room_of (c.begin.ensures.disk i).now) (λ i. (c.begin.ensures.current i).counted) c.begin.ensures.refused c.in-Ok.ensures.takes
-    c.update_all.ensures.frame.follows.takes c.in-Ok.ensures.counts (c.in-Err-update_all.ensures.fails.full is)
-
-pub returns-in-Err-update_all-clause-as_before : goal.returns-in-Err-update_all-clause-as_before
-returns-in-Err-update_all-clause-as_before g c = λ is.
-    c.abandon.ensures.current ∙ ap (λ (k : Kept). k.last) c.update_all.ensures.frame.follows.kept ∙ c.begin.ensures.last ∙ sym c.args.self.now.settled
+    let both = head-rises (length c.args.updates.now) old c.update_all.new.pages.last.head c.update_all.new.head c.commit.new.store.current.head (ap (λ (b : Superblock). b.head) last) within c.commit.ensures.new_head in
+    record { live = both.0; number = both.1 }
 
 pub update_all-requires-clause-numbers : goal.update_all-requires-clause-numbers
 update_all-requires-clause-numbers g c = subst AreHeadNumbers (sym (c.head-head.ensures ∙ ap (λ (b : Superblock). b.head) c.begin.ensures.current)) c.args.self.now.numbers
 
-pub returns-in-Err-update_all-clause-no_head : goal.returns-in-Err-update_all-clause-no_head
-returns-in-Err-update_all-clause-no_head g c = λ t damage is.
-    c.in-Err-update_all.ensures.no_head (λ p. store-told g.D.Disk.readable (applied (g.D.Disk.world p.disk.now).seen) p.overlay p.current.counted t p.sized) damage is
+pub returns-in-Err-update_all-clause-fails : goal.returns-in-Err-update_all-clause-fails
+returns-in-Err-update_all-clause-fails g c =
+    let old = c.args.self.now.store in
+    let allowed = c.begin.new.store in
+    let mid = c.update_all.new.pages in
+    record {
+      causes = search rules;
+      stopped = search rules;
+      emptied = search rules;
+      disk = search rules;
+      stays = search rules;
+      no_head = λ t damage is. c.in-Err-update_all.ensures.no_head (λ p. store-told g.D.Disk.readable (applied (g.D.Disk.world p.disk.now).seen) p.overlay p.current.counted t p.sized) damage is;
+      no_room = search rules;
+      room_left = λ is. room-left (g.D.Disk.room_of old.disk.now) old.current.counted old.refused (most_takes (length c.args.updates.now) old.current.counted) (g.D.Disk.room_of allowed.disk.now)
+          (counts_of allowed.current.counted allowed.takes_left allowed.refused) (counts_of mid.current.counted mid.takes_left mid.refused)
+          (λ i. g.D.Disk.room_of (c.begin.ensures.disk i).now) (λ i. (c.begin.ensures.current i).counted) c.begin.ensures.refused c.in-Ok.ensures.takes
+          c.update_all.ensures.frame.follows.takes c.in-Ok.ensures.counts (c.in-Err-update_all.ensures.fails.full is);
+      free_left = search rules;
+    }
+
+pub returns-in-Err-update_all-clause-refused : goal.returns-in-Err-update_all-clause-refused
+returns-in-Err-update_all-clause-refused g c = record {
+  goes_on = search rules;
+  rests = search rules;
+  as_before = λ is. c.abandon.ensures.current ∙ ap (λ (k : Kept). k.last) c.update_all.ensures.frame.follows.kept ∙ c.begin.ensures.last ∙ sym c.args.self.now.settled;
+}
 
 pub commit-requires-clause-last : goal.commit-requires-clause-last
 commit-requires-clause-last g c =
