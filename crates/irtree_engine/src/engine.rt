@@ -1,6 +1,6 @@
 //! The engine, its count, and its output.
-ghost use Rattle.std.specs.Prelude.{◌≡◌, ◌≢◌, ◌≤◌, ◌<◌, ◌⊎◌, true, false, IsTrue, IfOk, IfErr, OnOk, OnErr, IsErrOf, ◌↔◌, ℕ, [], length};
-ghost use Rattle.disk_model.specs.World.{LeavesOnly, HasSaid, HasSinkCause, ReadsJournalOnly, Rose};
+ghost use Rattle.std.specs.Prelude.{◌≡◌, ◌≤◌, ◌<◌, ◌⊎◌, false, IsTrue, IfOk, IfErr, OnOk, IsErrOf, ◌↔◌, ℕ, [], length};
+ghost use Rattle.disk_model.specs.World.{LeavesOnly, HasSaid, HasSinkCause, ReadsJournalOnly};
 ghost use Rattle.page_journal.specs.Record.{IsBad, applied};
 ghost use Rattle.page_store.specs.Contents.{IsCommitted};
 ghost use Rattle.page_store.specs.Opening.{Recovers, SaysNothingReadsHead, head_damage};
@@ -37,6 +37,8 @@ pub struct Engine<'d, D: Station, P: Drop = Box<dyn SplitPolicy>> {
 }
 
 impl<'d, D: Station> Engine<'d, D> {
+    ghost use Rattle.irtree_engine.specs.Engine.{OnlySettles, RefusesSettling, block_of, world_of};
+
     /// Recovers the journal and reads page 0. `cache` is the number of pages that the cache may hold; 0 is none. The tree changes under the
     /// policy, which a store doesn't keep: another may be handed in at each opening.
     ///
@@ -137,8 +139,8 @@ impl<'d, D: Station> Engine<'d, D> {
 
     /// Returns how many places live. Makes no call of the disk.
     pub fn count(&self) -> u32
-        ensures live { result ≡ self.now.store.current.head.live }
-        ensures counted { IsTrue D.readable → self.now.stopped ≡ false → (state : Contents) → HoldsState (D.world self.now.store.disk.now) state → result ≡ length state.places }
+        ensures live { result ≡ (block_of self.now).head.live }
+        ensures counted { IsTrue D.readable → self.now.stopped ≡ false → (state : Contents) → HoldsState (world_of self.now) state → result ≡ length state.places }
     {
         self.store.head().live
     }
@@ -174,29 +176,15 @@ impl<'d, D: Station> Engine<'d, D> {
     /// Costs a checkpoint: a write for each page of the journal, one of a byte, and two syncs. Makes no call of the disk if the journal
     /// holds no record.
     pub fn settle(&mut self) -> Result<(), EngineFault>
-        ensures same_loan { self.new.store.disk.ghost_name ≡ self.old.store.disk.ghost_name }
-        ensures holds { IsTrue D.readable → (state : Contents) → HoldsState (D.world self.old.store.disk.now) state → OnOk result (HoldsState (D.world self.new.store.disk.now) state) }
-        ensures any_moment { IsTrue D.readable → (state : Contents) → HoldsState (D.world self.old.store.disk.now) state
-            → LeavesOnly (D.world self.old.store.disk.now) (D.world self.new.store.disk.now) (LeavesState state (D.world self.old.store.disk.now)) }
-        ensures same { IsTrue D.readable → OnOk result (applied (D.world self.new.store.disk.now).seen ≡ applied (D.world self.old.store.disk.now).seen) }
+        ensures frame { OnlySettles self.old self.new }
+        ensures holds { IsTrue D.readable → (state : Contents) → HoldsState (world_of self.old) state → OnOk result (HoldsState (world_of self.new) state) }
+        ensures any_moment { IsTrue D.readable → (state : Contents) → HoldsState (world_of self.old) state
+            → LeavesOnly (world_of self.old) (world_of self.new) (LeavesState state (world_of self.old)) }
+        ensures same { IsTrue D.readable → OnOk result (applied (world_of self.new).seen ≡ applied (world_of self.old).seen) }
         ensures front { OnOk result (self.new.store.end ≡ 0) }
         ensures at_rest { self.old.store.end ≡ 0 → self.new.store.disk ≡ self.old.store.disk }
-        ensures reads { IsTrue D.readable → ReadsJournalOnly (D.world self.old.store.disk.now) (D.world self.new.store.disk.now) }
-        ensures stopped { IsErrOf result EngineFault.Stopped ↔ IsTrue self.old.stopped }
-        ensures causes { IfErr result IsSettleFault }
-        ensures disk { IsErrOf result EngineFault.Disk → Rose (D.world self.old.store.disk.now).faults (D.world self.new.store.disk.now).faults }
-
-        ensures stays { result ≢ Err EngineFault.Disk → (D.world self.new.store.disk.now).faults ≡ (D.world self.old.store.disk.now).faults }
-        ensures stops { IsErrOf result EngineFault.Disk → self.new.stopped ≡ true }
-        ensures goes_on { result ≢ Err EngineFault.Disk → self.new.stopped ≡ self.old.stopped }
-        ensures untouched { result ≢ Err EngineFault.Disk → OnErr result (self.new.store.disk ≡ self.old.store.disk) }
-        ensures silent { IsTrue D.readable → (D.world self.new.store.disk.now).said ≡ (D.world self.old.store.disk.now).said }
-        ensures later { (D.world self.old.store.disk.now).faults ≤ (D.world self.new.store.disk.now).faults }
-        ensures sink { (D.world self.new.store.disk.now).sink_faults ≡ (D.world self.old.store.disk.now).sink_faults }
-        ensures refused { self.new.store.refused ≡ self.old.store.refused }
-        ensures room { D.room_of self.new.store.disk.now ≡ D.room_of self.old.store.disk.now }
-        ensures log { self.new.store.asked.items ≡ self.old.store.asked.items }
-        ensures head { self.new.store.current ≡ self.old.store.current }
+        ensures reads { IsTrue D.readable → ReadsJournalOnly (world_of self.old) (world_of self.new) }
+        ensures fails { RefusesSettling self.old self.new result }
     {
         if self.stopped {
             return Err(EngineFault::Stopped);

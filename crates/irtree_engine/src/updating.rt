@@ -1,5 +1,5 @@
 //! Updates, each in one commit.
-ghost use Rattle.std.specs.Prelude.{◌≡◌, ◌≢◌, ◌⊎◌, ◌↔◌, ◌<◌, ◌≤◌, ◌+◌, ◌-◌, ◌^◌, ℕ, List, Ok, IsTrue, true, false, [], IfOk, IfErr, OnOk, OnErr, IsErrOf, length};
+ghost use Rattle.std.specs.Prelude.{◌≡◌, ◌≢◌, ◌⊎◌, ◌↔◌, ◌<◌, ◌≤◌, ◌+◌, ◌-◌, ◌^◌, Ok, IsTrue, true, false, [], IfOk, IfErr, OnOk, OnErr, IsErrOf, length};
 ghost use Rattle.std.specs.List.{AllByRecursion};
 ghost use Rattle.disk_model.specs.World.{LeavesOnly};
 ghost use Rattle.disk_model.specs.World as worlds;
@@ -11,12 +11,12 @@ ghost use Rattle.place_values.specs.Update.{NamesText, effect_of};
 ghost use Rattle.store_model.specs.Stands.{PagesStand};
 ghost use Rattle.irtree_engine.specs.Changes.{block_with};
 ghost use Rattle.irtree_engine.specs.Holding.{HoldsState};
-ghost use Rattle.irtree_engine.specs.Updates.{LeavesOneOf, LeavesAllOrNone, StandsForOutcome, IsUpdateFault, IsCommitFault, IsDueTo, IsAtLimit, IsLater, LacksPages, LacksRoom, most_takes, state_after_all};
+ghost use Rattle.irtree_engine.specs.Updates.{LeavesOneOf, LeavesAllOrNone, StandsForOutcome, IsCommitFault, IsDueTo, IsAtLimit, IsLater, most_takes, state_after_all};
 
 use crate::room::want_room;
 use crate::{Engine, EngineFault, change};
 use disk_model::Station;
-use page_face::{Damage, Head, PageFault, Pages, Rule};
+use page_face::{Head, PageFault, Pages};
 use page_store::Store;
 use place_values::{Applied, Update};
 

@@ -9,5 +9,5 @@ returns-in-Ok-clause-alike g c = λ told. ap pages.contents_in (c.in-Ok.ensures.
 pub returns-in-Ok-clause-at_rest : goal.returns-in-Ok-clause-at_rest
 returns-in-Ok-clause-at_rest g c = λ told on.
     let new = c.settle.new.self in
-    let still : new.stopped ≡ false = c.in-Ok.ensures.goes_on (λ e. absurd (cc)) ∙ on in
+    let still : new.stopped ≡ false = c.in-Ok.ensures.fails.goes_on (λ e. absurd (cc)) ∙ on in
     subst (λ (at : ℕ). IsReady at (g.T.Disk.world new.store.disk.now)) c.in-Ok.ensures.front (new.store.ready told (sym new.stops ∙ still)).ready

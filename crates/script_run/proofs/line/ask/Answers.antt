@@ -21,21 +21,21 @@ use Rattle.script_run.proofs.line.ask.Goals as goal
 pub returns-in-Ok-clause-told : goal.returns-in-Ok-clause-told
 unfolding reply_of
 returns-in-Ok-clause-told g c = λ told state holds.
-    read-replies state (Ok (lines.Ask c.args.query c.args.explain)) _ _ (replies.Found c.in-Ok.answer c.args.query c.args.explain) (c.in-Ok.ensures.rests told) holds refl
+    read-replies state (Ok (lines.Ask c.args.query c.args.explain)) _ _ (replies.Found c.in-Ok.answer c.args.query c.args.explain) (c.in-Ok.ensures.frame.rests told) holds refl
     (ap (λ a. text_of_reply (replies.Found a c.args.query c.args.explain)) (c.in-Ok.ensures.answered told state holds))
 
 pub returns-in-Err-clause-told : goal.returns-in-Err-clause-told
 returns-in-Err-clause-told g c =
     let refused : RefusedRead g.T.Disk.readable (g.T.Disk.world c.args.engine.now.store.disk.now) (g.T.Disk.world c.answer.new.self.store.disk.now) c.in-Err.fault = record {
-      causes = c.in-Err.ensures.causes;
-      faults = c.in-Err.ensures.later;
-      sink = c.in-Err.ensures.sink;
-      on = λ e. let stopped : true ≡ false = sym (c.in-Err.ensures.stopped.0 (ap Err e)) ∙ c.requires.on in cc;
-      disk = λ e. c.in-Err.ensures.disk (ap Err e);
-      stays = λ apart. c.in-Err.ensures.stays (λ e. apart (cc));
+      causes = c.in-Err.ensures.fails.causes;
+      faults = c.in-Err.ensures.frame.later;
+      sink = c.in-Err.ensures.frame.sink;
+      on = λ e. let stopped : true ≡ false = sym (c.in-Err.ensures.fails.stopped.0 (ap Err e)) ∙ c.requires.on in cc;
+      disk = λ e. c.in-Err.ensures.fails.disk (ap Err e);
+      stays = λ apart. c.in-Err.ensures.fails.stays (λ e. apart (cc));
       no_false_damage = λ told state holds damage e. c.in-Err.ensures.no_false_damage told state holds damage (ap Err e);
-      no_head = λ told damage e. c.in-Err.ensures.no_head told damage (ap Err e);
-      rests = c.in-Err.ensures.rests;
+      no_head = λ told damage e. c.in-Err.ensures.fails.no_head told damage (ap Err e);
+      rests = c.in-Err.ensures.frame.rests;
     } in
     λ told state holds. subst (λ (e : Ended). RepliesTo state (Ok (lines.Ask c.args.query c.args.explain)) (g.T.Disk.world c.args.engine.now.store.disk.now) (g.T.Disk.world c.answer.new.self.store.disk.now) (Err e)) (sym c.ended_by.ensures)
     (refused-read _ _ _ c.in-Err.fault state (Ok (lines.Ask c.args.query c.args.explain)) refused told holds)
@@ -43,41 +43,41 @@ returns-in-Err-clause-told g c =
 pub returns-in-Err-clause-cause : goal.returns-in-Err-clause-cause
 returns-in-Err-clause-cause g c =
     let refused : RefusedRead g.T.Disk.readable (g.T.Disk.world c.args.engine.now.store.disk.now) (g.T.Disk.world c.answer.new.self.store.disk.now) c.in-Err.fault = record {
-      causes = c.in-Err.ensures.causes;
-      faults = c.in-Err.ensures.later;
-      sink = c.in-Err.ensures.sink;
-      on = λ e. let stopped : true ≡ false = sym (c.in-Err.ensures.stopped.0 (ap Err e)) ∙ c.requires.on in cc;
-      disk = λ e. c.in-Err.ensures.disk (ap Err e);
-      stays = λ apart. c.in-Err.ensures.stays (λ e. apart (cc));
+      causes = c.in-Err.ensures.fails.causes;
+      faults = c.in-Err.ensures.frame.later;
+      sink = c.in-Err.ensures.frame.sink;
+      on = λ e. let stopped : true ≡ false = sym (c.in-Err.ensures.fails.stopped.0 (ap Err e)) ∙ c.requires.on in cc;
+      disk = λ e. c.in-Err.ensures.fails.disk (ap Err e);
+      stays = λ apart. c.in-Err.ensures.fails.stays (λ e. apart (cc));
       no_false_damage = λ told state holds damage e. c.in-Err.ensures.no_false_damage told state holds damage (ap Err e);
-      no_head = λ told damage e. c.in-Err.ensures.no_head told damage (ap Err e);
-      rests = c.in-Err.ensures.rests;
+      no_head = λ told damage e. c.in-Err.ensures.fails.no_head told damage (ap Err e);
+      rests = c.in-Err.ensures.frame.rests;
     } in
     subst (λ (e : Ended). HasEngineEnd {T = Reply} g.T.Disk.readable (g.T.Disk.world c.args.engine.now.store.disk.now) (g.T.Disk.world c.answer.new.self.store.disk.now) (Err e)) (sym c.ended_by.ensures)
     (refused-read-cause _ _ _ Reply c.in-Err.fault refused)
 
 pub returns-in-Err-clause-ends : goal.returns-in-Err-clause-ends
-returns-in-Err-clause-ends g c = subst IsLineEnd (sym c.ended_by.ensures) (read-ends c.in-Err.fault c.in-Err.ensures.causes)
+returns-in-Err-clause-ends g c = subst IsLineEnd (sym c.ended_by.ensures) (read-ends c.in-Err.fault c.in-Err.ensures.fails.causes)
 
 pub returns-in-Ok-clause-reads : goal.returns-in-Ok-clause-reads
 returns-in-Ok-clause-reads g c = λ told state holds.
-    asked-reads state c.args.query c.args.explain _ _ (c.in-Ok.ensures.rests told).seen (c.in-Ok.ensures.opens_few told state holds)
+    asked-reads state c.args.query c.args.explain _ _ (c.in-Ok.ensures.frame.rests told).seen (c.in-Ok.ensures.opens_few told state holds)
 
 pub returns-in-Ok-clause-kept : goal.returns-in-Ok-clause-kept
-returns-in-Ok-clause-kept g c = λ told. record { seen = (c.in-Ok.ensures.rests told).seen; met = tt }
+returns-in-Ok-clause-kept g c = λ told. record { seen = (c.in-Ok.ensures.frame.rests told).seen; met = tt }
 
 pub returns-in-Err-clause-kept : goal.returns-in-Err-clause-kept
 returns-in-Err-clause-kept g c = λ told.
     let image = (g.T.Disk.world c.args.engine.now.store.disk.now).seen in
     record {
-      seen = (c.in-Err.ensures.rests told).seen;
+      seen = (c.in-Err.ensures.frame.rests told).seen;
       met = subst (IsMetIn image) (sym c.ended_by.ensures) (met-engine image c.in-Err.fault (λ damage e. inl (c.args.query, c.in-Err.ensures.broken told damage (ap Err e))));
     }
 
 pub returns-in-Err-clause-lacks : goal.returns-in-Err-clause-lacks
 returns-in-Err-clause-lacks g c = λ told is.
     let ended : c.ended_by.result ≡ ends.Limit limits.NoRoom = cc in
-    absurd (refused-room c.in-Err.fault c.in-Err.ensures.causes (sym c.ended_by.ensures ∙ ended))
+    absurd (refused-room c.in-Err.fault c.in-Err.ensures.fails.causes (sym c.ended_by.ensures ∙ ended))
 
 pub returns-in-Err-clause-goes_on : goal.returns-in-Err-clause-goes_on
-returns-in-Err-clause-goes_on g c = on-behind _ c.ended_by.result (c.in-Err.ensures.goes_on ∙ c.requires.on)
+returns-in-Err-clause-goes_on g c = on-behind _ c.ended_by.result (c.in-Err.ensures.frame.goes_on ∙ c.requires.on)

@@ -21,28 +21,28 @@ pub returns-in-Ok-Some-clause-told : goal.returns-in-Ok-Some-clause-told
 unfolding reply_of
 returns-in-Ok-Some-clause-told g c = λ told state holds.
     let shown = rw c.in-Ok-Some.field-0-is at (c.in-Ok-Some.ensures.shown told state holds) in
-    read-replies state (Ok (lines.Show c.args.key)) _ _ (replies.Place c.args.key c.in-Ok-Some.place.point c.in-Ok-Some.place.words c.in-Ok-Some.place.label) (c.in-Ok-Some.ensures.rests told) holds refl
+    read-replies state (Ok (lines.Show c.args.key)) _ _ (replies.Place c.args.key c.in-Ok-Some.place.point c.in-Ok-Some.place.words c.in-Ok-Some.place.label) (c.in-Ok-Some.ensures.frame.rests told) holds refl
     (ap (λ p. text_of_reply (show_reply c.args.key p)) shown)
 
 pub returns-in-Ok-None-clause-told : goal.returns-in-Ok-None-clause-told
 unfolding reply_of
 returns-in-Ok-None-clause-told g c = λ told state holds.
     let shown = rw c.in-Ok-None.field-0-is at (c.in-Ok-None.ensures.shown told state holds) in
-    read-replies state (Ok (lines.Show c.args.key)) _ _ replies.Absent (c.in-Ok-None.ensures.rests told) holds refl
+    read-replies state (Ok (lines.Show c.args.key)) _ _ replies.Absent (c.in-Ok-None.ensures.frame.rests told) holds refl
     (ap (λ p. text_of_reply (show_reply c.args.key p)) shown)
 
 pub returns-in-Err-clause-told : goal.returns-in-Err-clause-told
 returns-in-Err-clause-told g c =
     let refused : RefusedRead g.T.Disk.readable (g.T.Disk.world c.args.engine.now.store.disk.now) (g.T.Disk.world c.show.new.self.store.disk.now) c.in-Err.fault = record {
-      causes = c.in-Err.ensures.causes;
-      faults = c.in-Err.ensures.later;
-      sink = c.in-Err.ensures.sink;
-      on = λ e. let stopped : true ≡ false = sym (c.in-Err.ensures.stopped.0 (ap Err e)) ∙ c.requires.on in cc;
-      disk = λ e. c.in-Err.ensures.disk (ap Err e);
-      stays = λ apart. c.in-Err.ensures.stays (λ e. apart (cc));
+      causes = c.in-Err.ensures.fails.causes;
+      faults = c.in-Err.ensures.frame.later;
+      sink = c.in-Err.ensures.frame.sink;
+      on = λ e. let stopped : true ≡ false = sym (c.in-Err.ensures.fails.stopped.0 (ap Err e)) ∙ c.requires.on in cc;
+      disk = λ e. c.in-Err.ensures.fails.disk (ap Err e);
+      stays = λ apart. c.in-Err.ensures.fails.stays (λ e. apart (cc));
       no_false_damage = λ told state holds damage e. c.in-Err.ensures.no_false_damage told state holds damage (ap Err e);
-      no_head = λ told damage e. c.in-Err.ensures.no_head told damage (ap Err e);
-      rests = c.in-Err.ensures.rests;
+      no_head = λ told damage e. c.in-Err.ensures.fails.no_head told damage (ap Err e);
+      rests = c.in-Err.ensures.frame.rests;
     } in
     λ told state holds. subst (λ (e : Ended). RepliesTo state (Ok (lines.Show c.args.key)) (g.T.Disk.world c.args.engine.now.store.disk.now) (g.T.Disk.world c.show.new.self.store.disk.now) (Err e)) (sym c.ended_by.ensures)
     (refused-read _ _ _ c.in-Err.fault state (Ok (lines.Show c.args.key)) refused told holds)
@@ -50,40 +50,40 @@ returns-in-Err-clause-told g c =
 pub returns-in-Err-clause-cause : goal.returns-in-Err-clause-cause
 returns-in-Err-clause-cause g c =
     let refused : RefusedRead g.T.Disk.readable (g.T.Disk.world c.args.engine.now.store.disk.now) (g.T.Disk.world c.show.new.self.store.disk.now) c.in-Err.fault = record {
-      causes = c.in-Err.ensures.causes;
-      faults = c.in-Err.ensures.later;
-      sink = c.in-Err.ensures.sink;
-      on = λ e. let stopped : true ≡ false = sym (c.in-Err.ensures.stopped.0 (ap Err e)) ∙ c.requires.on in cc;
-      disk = λ e. c.in-Err.ensures.disk (ap Err e);
-      stays = λ apart. c.in-Err.ensures.stays (λ e. apart (cc));
+      causes = c.in-Err.ensures.fails.causes;
+      faults = c.in-Err.ensures.frame.later;
+      sink = c.in-Err.ensures.frame.sink;
+      on = λ e. let stopped : true ≡ false = sym (c.in-Err.ensures.fails.stopped.0 (ap Err e)) ∙ c.requires.on in cc;
+      disk = λ e. c.in-Err.ensures.fails.disk (ap Err e);
+      stays = λ apart. c.in-Err.ensures.fails.stays (λ e. apart (cc));
       no_false_damage = λ told state holds damage e. c.in-Err.ensures.no_false_damage told state holds damage (ap Err e);
-      no_head = λ told damage e. c.in-Err.ensures.no_head told damage (ap Err e);
-      rests = c.in-Err.ensures.rests;
+      no_head = λ told damage e. c.in-Err.ensures.fails.no_head told damage (ap Err e);
+      rests = c.in-Err.ensures.frame.rests;
     } in
     subst (λ (e : Ended). HasEngineEnd {T = Reply} g.T.Disk.readable (g.T.Disk.world c.args.engine.now.store.disk.now) (g.T.Disk.world c.show.new.self.store.disk.now) (Err e)) (sym c.ended_by.ensures)
     (refused-read-cause _ _ _ Reply c.in-Err.fault refused)
 
 pub returns-in-Err-clause-ends : goal.returns-in-Err-clause-ends
-returns-in-Err-clause-ends g c = subst IsLineEnd (sym c.ended_by.ensures) (read-ends c.in-Err.fault c.in-Err.ensures.causes)
+returns-in-Err-clause-ends g c = subst IsLineEnd (sym c.ended_by.ensures) (read-ends c.in-Err.fault c.in-Err.ensures.fails.causes)
 
 pub returns-in-Ok-Some-clause-kept : goal.returns-in-Ok-Some-clause-kept
-returns-in-Ok-Some-clause-kept g c = λ told. record { seen = (c.in-Ok-Some.ensures.rests told).seen; met = tt }
+returns-in-Ok-Some-clause-kept g c = λ told. record { seen = (c.in-Ok-Some.ensures.frame.rests told).seen; met = tt }
 
 pub returns-in-Ok-None-clause-kept : goal.returns-in-Ok-None-clause-kept
-returns-in-Ok-None-clause-kept g c = λ told. record { seen = (c.in-Ok-None.ensures.rests told).seen; met = tt }
+returns-in-Ok-None-clause-kept g c = λ told. record { seen = (c.in-Ok-None.ensures.frame.rests told).seen; met = tt }
 
 pub returns-in-Err-clause-kept : goal.returns-in-Err-clause-kept
 returns-in-Err-clause-kept g c = λ told.
     let image = (g.T.Disk.world c.args.engine.now.store.disk.now).seen in
     record {
-      seen = (c.in-Err.ensures.rests told).seen;
+      seen = (c.in-Err.ensures.frame.rests told).seen;
       met = subst (IsMetIn image) (sym c.ended_by.ensures) (met-engine image c.in-Err.fault (λ damage e. inr (c.in-Err.ensures.broken told damage (ap Err e))));
     }
 
 pub returns-in-Err-clause-lacks : goal.returns-in-Err-clause-lacks
 returns-in-Err-clause-lacks g c = λ told is.
     let ended : c.ended_by.result ≡ ends.Limit limits.NoRoom = cc in
-    absurd (refused-room c.in-Err.fault c.in-Err.ensures.causes (sym c.ended_by.ensures ∙ ended))
+    absurd (refused-room c.in-Err.fault c.in-Err.ensures.fails.causes (sym c.ended_by.ensures ∙ ended))
 
 pub returns-in-Err-clause-goes_on : goal.returns-in-Err-clause-goes_on
-returns-in-Err-clause-goes_on g c = on-behind _ c.ended_by.result (c.in-Err.ensures.goes_on ∙ c.requires.on)
+returns-in-Err-clause-goes_on g c = on-behind _ c.ended_by.result (c.in-Err.ensures.frame.goes_on ∙ c.requires.on)

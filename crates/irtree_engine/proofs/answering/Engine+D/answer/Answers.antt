@@ -1,4 +1,4 @@
-use Rattle.std.proofs.Common.{◌≡◌, ℕ, List, [], ◌∙◌, Err, sym, ap, subst}
+use Rattle.std.proofs.Common.{◌≡◌, ℕ, List, [], ◌∙◌, Err, sym, ap, subst, rules}
 use Rattle.std.proofs.lemmas.Result.{err_from_is_err_and}
 use Rattle.page_journal.specs.Record.{applied}
 use Rattle.page_face.specs.FreeList.{PageMap}
@@ -144,21 +144,58 @@ returns-in_err-answer_in-clause-broken g c = λ t damage is.
           (subst (λ (h : Head). IsQueryDamage pages (block_with store.current.counted store.current.first_free h) c.args.query.now store.asked.items log damage) c.head-head.ensures found));
     }
 
-pub returns-in_err-answer_in-clause-no_head : goal.returns-in_err-answer_in-clause-no_head
-returns-in_err-answer_in-clause-no_head g c = λ t damage is.
-    let store = c.clear_log.new.self in
-    let passed = err_from_is_err_and c.from_residual.result c.from_residual.ensures.1 in
-    let result_is = passed.1 in
-    let fault_is = passed.2 in
-    let was : fault_of_pages c.in_err-answer_in.field-0.0 ≡ Damaged damage = cc in
-    let told = store-told g.D.Disk.readable (applied (g.D.Disk.world store.disk.now).seen) store.overlay store.current.counted t store.sized in
-    answer-spares_head _ _ c.head-head.result.live (tables_in c.head-head.result) (tree_in c.head-head.result) c.args.query.now _ _ damage (c.answer_in.ensures.damaged told damage (c.in_err-answer_in.was ∙ ap Err (damaged-from _ damage was)))
+pub returns-in_err-answer_in-clause-fails : goal.returns-in_err-answer_in-clause-fails
+returns-in_err-answer_in-clause-fails g c = record {
+  causes = search rules;
+  stopped = search rules;
+  emptied = search rules;
+  disk = search rules;
+  stays = search rules;
+  no_head = λ t damage is.
+      let store = c.clear_log.new.self in
+      let passed = err_from_is_err_and c.from_residual.result c.from_residual.ensures.1 in
+      let result_is = passed.1 in
+      let fault_is = passed.2 in
+      let was : fault_of_pages c.in_err-answer_in.field-0.0 ≡ Damaged damage = cc in
+      let told = store-told g.D.Disk.readable (applied (g.D.Disk.world store.disk.now).seen) store.overlay store.current.counted t store.sized in
+      answer-spares_head _ _ c.head-head.result.live (tables_in c.head-head.result) (tree_in c.head-head.result) c.args.query.now _ _ damage (c.answer_in.ensures.damaged told damage (c.in_err-answer_in.was ∙ ap Err (damaged-from _ damage was)));
+}
 
-pub returns-then-self-clause-log : goal.returns-then-self-clause-log
-returns-then-self-clause-log g c = logged-none g.D.Disk.readable g.D.Disk.world c.clear_log.ensures.disk c.clear_log.ensures.log c.clear_log.new.self.overlay
+pub returns-then-self-clause-frame : goal.returns-then-self-clause-frame
+returns-then-self-clause-frame g c = record {
+  same_loan = search rules;
+  room = search rules;
+  later = search rules;
+  sink = search rules;
+  rests = search rules;
+  refused = search rules;
+  goes_on = search rules;
+  head = search rules;
+  log = logged-none g.D.Disk.readable g.D.Disk.world c.clear_log.ensures.disk c.clear_log.ensures.log c.clear_log.new.self.overlay;
+}
 
-pub returns-in_err-answer_in-clause-log : goal.returns-in_err-answer_in-clause-log
-returns-in_err-answer_in-clause-log g c = logged g.D.Disk.readable g.D.Disk.world c.clear_log.ensures.disk c.clear_log.ensures.log c.answer_in.ensures.frame.only_reads
+pub returns-in_err-answer_in-clause-frame : goal.returns-in_err-answer_in-clause-frame
+returns-in_err-answer_in-clause-frame g c = record {
+  same_loan = search rules;
+  room = search rules;
+  later = search rules;
+  sink = search rules;
+  rests = search rules;
+  refused = search rules;
+  goes_on = search rules;
+  head = search rules;
+  log = logged g.D.Disk.readable g.D.Disk.world c.clear_log.ensures.disk c.clear_log.ensures.log c.answer_in.ensures.frame.only_reads;
+}
 
-pub returns-clause-log : goal.returns-clause-log
-returns-clause-log g c = logged g.D.Disk.readable g.D.Disk.world c.clear_log.ensures.disk c.clear_log.ensures.log c.answer_in.ensures.frame.only_reads
+pub returns-clause-frame : goal.returns-clause-frame
+returns-clause-frame g c = record {
+  same_loan = search rules;
+  room = search rules;
+  later = search rules;
+  sink = search rules;
+  rests = search rules;
+  refused = search rules;
+  goes_on = search rules;
+  head = search rules;
+  log = logged g.D.Disk.readable g.D.Disk.world c.clear_log.ensures.disk c.clear_log.ensures.log c.answer_in.ensures.frame.only_reads;
+}

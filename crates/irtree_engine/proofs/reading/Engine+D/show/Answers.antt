@@ -1,4 +1,4 @@
-use Rattle.std.proofs.Common.{◌≡◌, ℕ, List, [], Err, ap, sym, subst, ◌∙◌}
+use Rattle.std.proofs.Common.{◌≡◌, ℕ, List, [], Err, ap, sym, subst, ◌∙◌, rules}
 use Rattle.std.proofs.lemmas.Result.{err_from_is_err_and}
 use Rattle.page_journal.specs.Record.{applied}
 use Rattle.page_face.specs.FreeList.{PageMap}
@@ -53,14 +53,44 @@ returns-clause-shown g c = λ t state holds.
     let has : Holds held c.tables_of-tables.result stand.entries = subst (λ (tables : Tables). Holds held tables stand.entries) (sym tables_are) stand.tables.holds in
     c.in_ok-place_at.ensures.found stand.entries has ∙ sym (place-at c.args.key.now stand.entries) ∙ ap (λ (s : Contents). place_at c.args.key.now s.places) (sym stand.is)
 
-pub returns-then-self-clause-log : goal.returns-then-self-clause-log
-returns-then-self-clause-log g c = logged-none g.D.Disk.readable g.D.Disk.world c.clear_log.ensures.disk c.clear_log.ensures.log c.clear_log.new.self.overlay
+pub returns-then-self-clause-frame : goal.returns-then-self-clause-frame
+returns-then-self-clause-frame g c = record {
+  same_loan = search rules;
+  room = search rules;
+  later = search rules;
+  sink = search rules;
+  rests = search rules;
+  refused = search rules;
+  goes_on = search rules;
+  head = search rules;
+  log = logged-none g.D.Disk.readable g.D.Disk.world c.clear_log.ensures.disk c.clear_log.ensures.log c.clear_log.new.self.overlay;
+}
 
-pub returns-in_err-place_at-clause-log : goal.returns-in_err-place_at-clause-log
-returns-in_err-place_at-clause-log g c = logged g.D.Disk.readable g.D.Disk.world c.clear_log.ensures.disk c.clear_log.ensures.log c.place_at.ensures.frame.only_reads
+pub returns-in_err-place_at-clause-frame : goal.returns-in_err-place_at-clause-frame
+returns-in_err-place_at-clause-frame g c = record {
+  same_loan = search rules;
+  room = search rules;
+  later = search rules;
+  sink = search rules;
+  rests = search rules;
+  refused = search rules;
+  goes_on = search rules;
+  head = search rules;
+  log = logged g.D.Disk.readable g.D.Disk.world c.clear_log.ensures.disk c.clear_log.ensures.log c.place_at.ensures.frame.only_reads;
+}
 
-pub returns-clause-log : goal.returns-clause-log
-returns-clause-log g c = logged g.D.Disk.readable g.D.Disk.world c.clear_log.ensures.disk c.clear_log.ensures.log c.place_at.ensures.frame.only_reads
+pub returns-clause-frame : goal.returns-clause-frame
+returns-clause-frame g c = record {
+  same_loan = search rules;
+  room = search rules;
+  later = search rules;
+  sink = search rules;
+  rests = search rules;
+  refused = search rules;
+  goes_on = search rules;
+  head = search rules;
+  log = logged g.D.Disk.readable g.D.Disk.world c.clear_log.ensures.disk c.clear_log.ensures.log c.place_at.ensures.frame.only_reads;
+}
 
 pub returns-in_err-place_at-clause-damaged : goal.returns-in_err-place_at-clause-damaged
 returns-in_err-place_at-clause-damaged g c = λ t damage is.
@@ -109,15 +139,22 @@ returns-in_err-place_at-clause-broken g c = λ t damage is.
           (subst (λ (tables : Tables). IsShownDamage pages store.current.counted tables key store.asked.items log damage) tables_are found));
     }
 
-pub returns-in_err-place_at-clause-no_head : goal.returns-in_err-place_at-clause-no_head
-returns-in_err-place_at-clause-no_head g c = λ t damage is.
-    let store = c.clear_log.new.self in
-    let passed = err_from_is_err_and c.from_residual.result c.from_residual.ensures.1 in
-    let result_is = passed.1 in
-    let fault_is = passed.2 in
-    let was : fault_of_pages c.in_err-place_at.field-0.0 ≡ Damaged damage = cc in
-    let told = store-told g.D.Disk.readable (applied (g.D.Disk.world store.disk.now).seen) store.overlay store.current.counted t store.sized in
-    shown-spares_head _ _ _ _ _ _ damage (c.place_at.ensures.damaged told damage (c.in_err-place_at.was ∙ ap Err (damaged-from _ damage was)))
+pub returns-in_err-place_at-clause-fails : goal.returns-in_err-place_at-clause-fails
+returns-in_err-place_at-clause-fails g c = record {
+  causes = search rules;
+  stopped = search rules;
+  emptied = search rules;
+  disk = search rules;
+  stays = search rules;
+  no_head = λ t damage is.
+      let store = c.clear_log.new.self in
+      let passed = err_from_is_err_and c.from_residual.result c.from_residual.ensures.1 in
+      let result_is = passed.1 in
+      let fault_is = passed.2 in
+      let was : fault_of_pages c.in_err-place_at.field-0.0 ≡ Damaged damage = cc in
+      let told = store-told g.D.Disk.readable (applied (g.D.Disk.world store.disk.now).seen) store.overlay store.current.counted t store.sized in
+      shown-spares_head _ _ _ _ _ _ damage (c.place_at.ensures.damaged told damage (c.in_err-place_at.was ∙ ap Err (damaged-from _ damage was)));
+}
 
 pub returns-clause-kept : goal.returns-clause-kept
 returns-clause-kept g c = λ t.

@@ -1,4 +1,4 @@
-use Rattle.std.proofs.Common.{◌≡◌, ◌↔◌, Err, ap, sym, subst, ◌∙◌}
+use Rattle.std.proofs.Common.{◌≡◌, ◌↔◌, Err, ap, sym, subst, ◌∙◌, rules}
 use Rattle.std.proofs.lemmas.Result.{err_from_is_err_and}
 use Rattle.disk_model.specs.World.{Image}
 use Rattle.page_journal.specs.Record.{applied}
@@ -70,11 +70,41 @@ returns-in_err-verify-clause-undamaged g c = λ damage is.
     let was : fault_of_pages c.in_err-verify.field-0.0 ≡ Damaged damage = cc in
     c.verify.ensures.undamaged damage (c.in_err-verify.was ∙ ap Err (damaged-from _ damage was))
 
-pub returns-then-self-clause-log : goal.returns-then-self-clause-log
-returns-then-self-clause-log g c = logged-none g.D.Disk.readable g.D.Disk.world c.clear_log.ensures.disk c.clear_log.ensures.log c.clear_log.new.self.overlay
+pub returns-then-self-clause-frame : goal.returns-then-self-clause-frame
+returns-then-self-clause-frame g c = record {
+  same_loan = search rules;
+  room = search rules;
+  later = search rules;
+  sink = search rules;
+  rests = search rules;
+  refused = search rules;
+  goes_on = search rules;
+  head = search rules;
+  log = logged-none g.D.Disk.readable g.D.Disk.world c.clear_log.ensures.disk c.clear_log.ensures.log c.clear_log.new.self.overlay;
+}
 
-pub returns-in_err-verify-clause-log : goal.returns-in_err-verify-clause-log
-returns-in_err-verify-clause-log g c = logged g.D.Disk.readable g.D.Disk.world c.clear_log.ensures.disk c.clear_log.ensures.log c.verify.ensures.frame.only_reads
+pub returns-in_err-verify-clause-frame : goal.returns-in_err-verify-clause-frame
+returns-in_err-verify-clause-frame g c = record {
+  same_loan = search rules;
+  room = search rules;
+  later = search rules;
+  sink = search rules;
+  rests = search rules;
+  refused = search rules;
+  goes_on = search rules;
+  head = search rules;
+  log = logged g.D.Disk.readable g.D.Disk.world c.clear_log.ensures.disk c.clear_log.ensures.log c.verify.ensures.frame.only_reads;
+}
 
-pub returns-clause-log : goal.returns-clause-log
-returns-clause-log g c = logged g.D.Disk.readable g.D.Disk.world c.clear_log.ensures.disk c.clear_log.ensures.log c.verify.ensures.frame.only_reads
+pub returns-clause-frame : goal.returns-clause-frame
+returns-clause-frame g c = record {
+  same_loan = search rules;
+  room = search rules;
+  later = search rules;
+  sink = search rules;
+  rests = search rules;
+  refused = search rules;
+  goes_on = search rules;
+  head = search rules;
+  log = logged g.D.Disk.readable g.D.Disk.world c.clear_log.ensures.disk c.clear_log.ensures.log c.verify.ensures.frame.only_reads;
+}
