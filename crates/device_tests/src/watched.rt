@@ -1,4 +1,6 @@
 //! The system's files, with a record of each call and one call that a test makes fail.
+ghost use Rattle.std.specs.Prelude.{None};
+
 use std::alloc::Allocator;
 use std::cell::{Cell, RefCell};
 use std::fs::{File, Metadata, OpenFile, OpenOptions, Permissions};
@@ -216,7 +218,6 @@ impl<'a> Seek for WatchedFile<'a> {
 
 impl<'a> OpenFile for WatchedFile<'a> {
     fn metadata(&self) -> io::Result<Metadata> {
-        self.notes.call(b'm', self.of)?;
         self.file.metadata()
     }
 
@@ -225,21 +226,63 @@ impl<'a> OpenFile for WatchedFile<'a> {
     }
 
     fn sync_all(&self) -> io::Result<()> {
-        self.notes.call(b's', self.of)?;
         self.file.sync_all()
     }
 
     fn sync_data(&self) -> io::Result<()> {
-        self.notes.call(b's', self.of)?;
         self.file.sync_data()
+    }
+}
+
+impl<'a> StoreFile for WatchedFile<'a> {
+    ghost made = { λ _. None };
+
+    fn take_lock(&mut self) -> io::Result<()> {
+        self.notes.call(b'l', self.of)?;
+        self.file.take_lock()
+    }
+
+    fn is_stream(&self) -> bool {
+        self.file.is_stream()
+    }
+
+    fn other_handle(&self) -> io::Result<WatchedFile<'a>> {
+        Ok(WatchedFile {
+            file: self.file.other_handle()?,
+            of: self.of,
+            notes: self.notes,
+        })
+    }
+
+    fn look(&mut self) -> io::Result<Metadata> {
+        self.notes.call(b'm', self.of)?;
+        self.file.look()
+    }
+
+    fn read_some(&mut self, at: u64, buf: &mut [u8]) -> io::Result<usize> {
+        self.notes.call(b'r', self.of)?;
+        let n = buf.len().min(3);
+        self.file.read_some(at, &mut buf[..n])
+    }
+
+    fn write_whole(&mut self, at: u64, bytes: &[u8]) -> io::Result<()> {
+        self.write_all_at(bytes, at)
+    }
+
+    fn sync_bytes(&mut self) -> io::Result<()> {
+        self.notes.call(b's', self.of)?;
+        self.file.sync_bytes()
+    }
+
+    fn sync_entries(&mut self) -> io::Result<()> {
+        self.notes.call(b's', self.of)?;
+        self.file.sync_entries()
     }
 }
 
 impl<'a> FileExt for WatchedFile<'a> {
     fn read_at(&self, buf: &mut [u8], offset: u64) -> io::Result<usize> {
-        self.notes.call(b'r', self.of)?;
-        let n = buf.len().min(3);
-        self.file.read_at(&mut buf[..n], offset)
+        self.file.read_at(buf, offset)
     }
 
     fn write_at(&self, buf: &[u8], offset: u64) -> io::Result<usize> {
@@ -248,16 +291,5 @@ impl<'a> FileExt for WatchedFile<'a> {
             Some(code) => Err(io::Error::from_raw_os_error(code)),
             None => self.file.write_at(&buf[..buf.len().min(3)], offset),
         }
-    }
-}
-
-impl<'a> StoreFile for WatchedFile<'a> {
-    fn take_lock(&self) -> io::Result<()> {
-        self.notes.call(b'l', self.of)?;
-        self.file.take_lock()
-    }
-
-    fn is_stream(&self) -> bool {
-        self.file.is_stream()
     }
 }

@@ -1,9 +1,11 @@
 //! A disk over the files of a store, with standard output as its sink.
-ghost use Rattle.std.specs.Prelude.{◌≡◌, ◌≤◌, ◌<◌, ◌^◌, ◌+◌, false, ◌↔◌, length, string_bytes, IfOk, IfErr, OnOk, Some, None, IsErr, IsSome, IsTrue};
+ghost use Rattle.std.specs.Prelude.{◌≡◌, ◌≤◌, ◌<◌, ◌^◌, ◌+◌, true, false, ◌↔◌, length, string_bytes, IfOk, IfErr, OnOk, OnErr, Some, None, IsErr, IsSome, IsTrue};
 ghost use Rattle.disk_model.specs.World.{HasRead, HasWritten, HasSynced, HasSaid, HasDiskCause, HasSinkCause};
 ghost use Rattle.std.specs.Io.KnownBytes.{WriteAppends};
 ghost use Rattle.std.proofs.Common.{rules};
 ghost use Rattle.std_devices.specs.Untold.{untold};
+ghost use Rattle.std_devices.specs.FileCalls.{FileCall, noted, checked, FailsToWrite, FailsToSync, OnlyReads};
+ghost use Rattle.std_devices.specs.Opened.{made_of, whole_of, other};
 
 use crate::output::write_some;
 use crate::store_file::StoreFile;
@@ -99,7 +101,7 @@ impl<'a, R: Files<File = F>, W: Write + Drop, F: StoreFile> FileStation<'a, R, W
     // Counts a failure, and keeps its cause.
     fn counted(&mut self, outcome: Result<(), FileTrouble>) -> Result<(), Failed>
         ensures cause { HasDiskCause (untold self.old.faults self.old.sink_faults) (untold self.new.faults self.new.sink_faults) result }
-        ensures failed { IsErr outcome → IsErr result }
+        ensures failed { IsErr outcome ↔ IsErr result }
         ensures named { IfErr outcome (λ trouble. self.new.trouble ≡ Some trouble) }
         ensures trouble { IsErr result → IsSome self.new.trouble }
         ensures kept { OnOk result (self.new.trouble ≡ self.old.trouble) }
@@ -142,6 +144,8 @@ impl<'a, R: Files<File = F>, W: Write + Drop, F: StoreFile> Disk for FileStation
         ensures kept { OnOk result (self.new.trouble ≡ self.old.trouble) }
         ensures stopped { IsSome self.old.trouble → IsErr result }
         ensures first { IsSome self.old.trouble → (self.new.trouble ≡ self.old.trouble) × (self.new.files ≡ self.old.files) }
+        ensures read { self.old.trouble ≡ None → IsSome self.old.files.opened → OnlyReads at (length buf.old) (made_of F.made area self.old.files.opened) (made_of F.made area self.new.files.opened) }
+        ensures other { IsSome self.old.files.opened → made_of F.made (other area) self.new.files.opened ≡ made_of F.made (other area) self.old.files.opened }
         ensures output { self.new.output ≡ self.old.output }
     {
         let outcome = match self.goes_on() {
@@ -159,6 +163,9 @@ impl<'a, R: Files<File = F>, W: Write + Drop, F: StoreFile> Disk for FileStation
         ensures kept { OnOk result (self.new.trouble ≡ self.old.trouble) }
         ensures stopped { IsSome self.old.trouble → IsErr result }
         ensures first { IsSome self.old.trouble → (self.new.trouble ≡ self.old.trouble) × (self.new.files ≡ self.old.files) }
+        ensures wrote { IsSome self.old.files.opened → OnOk result (made_of F.made area self.new.files.opened ≡ noted (FileCall.wrote at bytes.now true) (checked (whole_of area self.old.files.opened) (made_of F.made area self.old.files.opened))) }
+        ensures failed { self.old.trouble ≡ None → IsSome self.old.files.opened → OnErr result (FailsToWrite at bytes.now (whole_of area self.old.files.opened) (made_of F.made area self.old.files.opened) (made_of F.made area self.new.files.opened)) }
+        ensures other { IsSome self.old.files.opened → made_of F.made (other area) self.new.files.opened ≡ made_of F.made (other area) self.old.files.opened }
         ensures output { self.new.output ≡ self.old.output }
     {
         let outcome = match self.goes_on() {
@@ -175,6 +182,9 @@ impl<'a, R: Files<File = F>, W: Write + Drop, F: StoreFile> Disk for FileStation
         ensures kept { OnOk result (self.new.trouble ≡ self.old.trouble) }
         ensures stopped { IsSome self.old.trouble → IsErr result }
         ensures first { IsSome self.old.trouble → (self.new.trouble ≡ self.old.trouble) × (self.new.files ≡ self.old.files) }
+        ensures synced { IsSome self.old.files.opened → OnOk result (made_of F.made area self.new.files.opened ≡ noted FileCall.looked (noted (FileCall.synced true) (made_of F.made area self.old.files.opened))) }
+        ensures failed { self.old.trouble ≡ None → IsSome self.old.files.opened → OnErr result (FailsToSync (made_of F.made area self.old.files.opened) (made_of F.made area self.new.files.opened)) }
+        ensures other { IsSome self.old.files.opened → made_of F.made (other area) self.new.files.opened ≡ made_of F.made (other area) self.old.files.opened }
         ensures output { self.new.output ≡ self.old.output }
     {
         let outcome = match self.goes_on() {

@@ -1,7 +1,7 @@
 //! Opens the files of a store.
 use crate::store_file::{KeptFile, StoreFile};
 use crate::trouble::Cause;
-use std::fs::{File, Metadata, OpenFile};
+use std::fs::{File, Metadata};
 use std::io::{self, ErrorKind};
 use std::os::unix::fs::MetadataExt;
 use std::path::Path;
@@ -27,7 +27,7 @@ fn open_locked<F: StoreFile, R: Files<File = F>>(rt: &R, path: &str) -> Result<F
         .map_err(|error| Cause::System(error))?;
     // Output for a standard stream that was closed must not reach the store.
     if file.is_stream() {
-        file = file.try_clone().map_err(|error| Cause::System(error))?;
+        file = file.other_handle().map_err(|error| Cause::System(error))?;
     }
     match file.take_lock() {
         Ok(()) => Ok(file),
@@ -57,9 +57,9 @@ pub(crate) fn open_journal<F: StoreFile, R: Files<File = F>>(
 pub(crate) fn named_once<F: StoreFile, R: Files<File = F>>(
     rt: &R,
     path: &str,
-    file: F,
+    mut file: F,
 ) -> Result<KeptFile<F>, Cause> {
-    let found = file.metadata().map_err(|error| Cause::System(error))?;
+    let found = file.look().map_err(|error| Cause::System(error))?;
     let named = rt
         .symlink_metadata(path)
         .map_err(|error| Cause::System(error))?;
@@ -80,7 +80,8 @@ fn sync_folder<F: StoreFile, R: Files<File = F>>(rt: &R, path: &str) -> io::Resu
         Some(folder) => folder.as_str(),
         None => "/",
     };
-    File::open(rt, folder)?.sync_all()
+    let mut folder = File::open(rt, folder)?;
+    folder.sync_entries()
 }
 
 // Whether the system reports that the folder cannot be synced at all, and not that a sync failed. Its file system has no such call, or

@@ -1,5 +1,7 @@
 //! The two files of a store, opened at the first call.
-ghost use Rattle.std.specs.Prelude.{◌≡◌, ◌<◌, ◌^◌, ◌+◌, length, string_bytes, IfOk, None};
+ghost use Rattle.std.specs.Prelude.{◌≡◌, ◌<◌, ◌^◌, ◌+◌, true, false, length, string_bytes, IfOk, OnOk, OnErr, IsSome, IsOk, ◌↔◌, None};
+ghost use Rattle.std_devices.specs.FileCalls.{FileCall, noted, checked, FailsToWrite, FailsToSync, OnlyReads};
+ghost use Rattle.std_devices.specs.Opened.{made_in, made_of, whole_in, whole_of, other};
 
 use crate::opening::{named_once, open_journal, open_pages, settle_folder};
 use crate::store_file::{KeptFile, StoreFile};
@@ -18,8 +20,45 @@ struct OpenFiles<F: StoreFile> {
     journal: KeptFile<F>,
 }
 
+impl<F: StoreFile> OpenFiles<F> {
+    fn read(&mut self, area: Area, at: u64, buf: &mut [u8]) -> Result<(), Cause>
+        requires { at + length buf.old < 2 ^ 48 }
+        ensures read { OnlyReads at (length buf.old) (made_in F.made area self.old) (made_in F.made area self.new) }
+        ensures other { made_in F.made (other area) self.new ≡ made_in F.made (other area) self.old }
+    {
+        match area {
+            Area::Pages => self.pages.read(at, buf),
+            Area::Journal => self.journal.read(at, buf),
+        }
+    }
+
+    fn write(&mut self, area: Area, at: u64, bytes: &[u8]) -> Result<(), Cause>
+        ensures wrote { OnOk result (made_in F.made area self.new ≡ noted (FileCall.wrote at bytes.now true) (checked (whole_in area self.old) (made_in F.made area self.old))) }
+        ensures failed { OnErr result (FailsToWrite at bytes.now (whole_in area self.old) (made_in F.made area self.old) (made_in F.made area self.new)) }
+        ensures other { made_in F.made (other area) self.new ≡ made_in F.made (other area) self.old }
+    {
+        match area {
+            Area::Pages => self.pages.write(at, bytes),
+            Area::Journal => self.journal.write(at, bytes),
+        }
+    }
+
+    fn sync(&mut self, area: Area) -> Result<(), Cause>
+        ensures synced { OnOk result (made_in F.made area self.new ≡ noted FileCall.looked (noted (FileCall.synced true) (made_in F.made area self.old))) }
+        ensures failed { OnErr result (FailsToSync (made_in F.made area self.old) (made_in F.made area self.new)) }
+        ensures other { made_in F.made (other area) self.new ≡ made_in F.made (other area) self.old }
+    {
+        match area {
+            Area::Pages => self.pages.sync(),
+            Area::Journal => self.journal.sync(),
+        }
+    }
+}
+
 // Adds the area whose file it is to a cause.
-fn of_area<T: Drop>(area: Area, outcome: Result<T, Cause>) -> Result<T, FileTrouble> {
+fn of_area<T: Drop>(area: Area, outcome: Result<T, Cause>) -> Result<T, FileTrouble>
+    ensures ok { IsOk result ↔ IsOk outcome }
+{
     match outcome {
         Ok(value) => Ok(value),
         Err(cause) => Err(FileTrouble { area, cause }),
@@ -87,32 +126,53 @@ impl<'a, R: Files<File = F>, F: StoreFile> StoreFiles<'a, R, F> {
         Ok(OpenFiles { pages, journal })
     }
 
-    // Returns the file of an area. The first call opens both files.
-    fn file(&mut self, area: Area) -> Result<&mut KeptFile<F>, FileTrouble> {
+    // Opens both files unless an earlier call has opened them.
+    fn open(&mut self) -> Result<(), FileTrouble>
+        ensures kept { IsSome self.old.opened → self.new.opened ≡ self.old.opened }
+        ensures opened { IsSome self.old.opened → IsOk result }
+    {
         if self.opened.is_none() {
             self.opened = Some(self.open_both()?);
         }
-        match (&mut self.opened, area) {
-            (Some(files), Area::Pages) => Ok(&mut files.pages),
-            (Some(files), Area::Journal) => Ok(&mut files.journal),
-            (None, _) => of_area(area, Err(no_memory())),
-        }
+        Ok(())
     }
 
     pub(crate) fn read(&mut self, area: Area, at: u64, buf: &mut [u8]) -> Result<(), FileTrouble>
         requires { at + length buf.old < 2 ^ 48 }
+        ensures read { IsSome self.old.opened → OnlyReads at (length buf.old) (made_of F.made area self.old.opened) (made_of F.made area self.new.opened) }
+        ensures other { IsSome self.old.opened → made_of F.made (other area) self.new.opened ≡ made_of F.made (other area) self.old.opened }
     {
-        let outcome = self.file(area)?.read(at, buf);
+        self.open()?;
+        let outcome = match &mut self.opened {
+            Some(files) => files.read(area, at, buf),
+            None => Err(no_memory()),
+        };
         of_area(area, outcome)
     }
 
-    pub(crate) fn write(&mut self, area: Area, at: u64, bytes: &[u8]) -> Result<(), FileTrouble> {
-        let outcome = self.file(area)?.write(at, bytes);
+    pub(crate) fn write(&mut self, area: Area, at: u64, bytes: &[u8]) -> Result<(), FileTrouble>
+        ensures wrote { IsSome self.old.opened → OnOk result (made_of F.made area self.new.opened ≡ noted (FileCall.wrote at bytes.now true) (checked (whole_of area self.old.opened) (made_of F.made area self.old.opened))) }
+        ensures failed { IsSome self.old.opened → OnErr result (FailsToWrite at bytes.now (whole_of area self.old.opened) (made_of F.made area self.old.opened) (made_of F.made area self.new.opened)) }
+        ensures other { IsSome self.old.opened → made_of F.made (other area) self.new.opened ≡ made_of F.made (other area) self.old.opened }
+    {
+        self.open()?;
+        let outcome = match &mut self.opened {
+            Some(files) => files.write(area, at, bytes),
+            None => Err(no_memory()),
+        };
         of_area(area, outcome)
     }
 
-    pub(crate) fn sync(&mut self, area: Area) -> Result<(), FileTrouble> {
-        let outcome = self.file(area)?.sync();
+    pub(crate) fn sync(&mut self, area: Area) -> Result<(), FileTrouble>
+        ensures synced { IsSome self.old.opened → OnOk result (made_of F.made area self.new.opened ≡ noted FileCall.looked (noted (FileCall.synced true) (made_of F.made area self.old.opened))) }
+        ensures failed { IsSome self.old.opened → OnErr result (FailsToSync (made_of F.made area self.old.opened) (made_of F.made area self.new.opened)) }
+        ensures other { IsSome self.old.opened → made_of F.made (other area) self.new.opened ≡ made_of F.made (other area) self.old.opened }
+    {
+        self.open()?;
+        let outcome = match &mut self.opened {
+            Some(files) => files.sync(area),
+            None => Err(no_memory()),
+        };
         of_area(area, outcome)
     }
 }
