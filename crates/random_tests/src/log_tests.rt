@@ -53,8 +53,14 @@ fn has_leaves(map: &Map, log: &[u32], answer: &Answer) -> bool {
     true
 }
 
-// Checks each page in the log of a query.
-fn check_log(map: &Map, query: &Query, answer: &Answer, log: &[u32]) -> Result<(), Fail> {
+// Checks each page in the log of a query, one by rarity by the top query that it is asked as.
+fn check_log(
+    map: &Map,
+    query: &Query,
+    by_rarity: bool,
+    answer: &Answer,
+    log: &[u32],
+) -> Result<(), Fail> {
     let hits: &[Hit] = match answer {
         Answer::Hits(hits) => hits.as_slice(),
         Answer::Group(_) => &[],
@@ -62,7 +68,7 @@ fn check_log(map: &Map, query: &Query, answer: &Answer, log: &[u32]) -> Result<(
     for page in log {
         let is_right = match map.tree.nodes.get(page) {
             Some(node) => is_due(query, hits, log, node),
-            None => is_of_words(&map.pages, *page)?,
+            None => is_of_words(&map.pages, *page, by_rarity)?,
         };
         if !is_right {
             return Err("a page was read that the query doesn't call for".into());
@@ -159,8 +165,8 @@ fn look(
         return Err("another answer".into());
     }
     match as_top(alloc, map, &query)? {
-        Some(top) => check_log(map, &top, &answer, engine.read_log()),
-        None => check_log(map, &query, &answer, engine.read_log()),
+        Some(top) => check_log(map, &top, true, &answer, engine.read_log()),
+        None => check_log(map, &query, false, &answer, engine.read_log()),
     }
 }
 

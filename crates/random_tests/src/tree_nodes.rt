@@ -189,8 +189,9 @@ pub(crate) fn tree_in(alloc: Global, pages: &[u8], state: &State) -> Result<Tree
     }
 }
 
-/// Returns whether a page is one of the words by text, or one of the rows of words.
-pub(crate) fn is_of_words(pages: &[u8], page: u32) -> Result<bool, Fail> {
+/// Returns whether a page is one of the words by text, or one of the rows of words. For a query by rarity it may be one of the words by
+/// number, too.
+pub(crate) fn is_of_words(pages: &[u8], page: u32, by_rarity: bool) -> Result<bool, Fail> {
     let (kind, map) = (byte_at(pages, page, 0)?, byte_at(pages, page, 1)?);
-    Ok((kind == 1 || kind == 2) && (map == 2 || map == 4))
+    Ok((kind == 1 || kind == 2) && (map == 2 || map == 4 || by_rarity && map == 3))
 }
