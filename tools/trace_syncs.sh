@@ -110,7 +110,7 @@ for sync in fsync fdatasync; do
         { traced run <<< "$script"; } 2> /dev/null || ended=$?
         grep -q INJECTED "$work/trace" || break
         after=$(sed '1,/INJECTED/d' "$work/trace" | grep -cE 'p(read|write)64\(.*(store|journal)>|write\(1<|sync\(' || true)
-        if [ "$ended" -ne 3 ] || [ "$after" -ne 0 ] || [ "$(wc -l < "$work/err")" -ne 1 ]; then
+        if [ "$ended" -ne 3 ] || [ "$after" -ne 0 ] || [ "$(head -n 1 "$work/err")" != "irtree: disk" ]; then
             echo "$sync $nth failed: status $ended, $after calls after it"
             cat "$work/err"
             exit 1
