@@ -1,5 +1,5 @@
 #!/usr/bin/env bash
-# A store whose place map has 256 levels, under a small stack (`ulimit -s`): what is looked up there is answered in 64 KB, as over a map of two
+# A store whose place map has 256 levels, under a small stack (`ulimit -s`): what is looked up there is answered in 80 KB, as over a map of two
 # levels, and a place that is put into a full leaf in 160 KB. tools/deep_store.py writes the store.
 # It needs python3, and the program built (./irtree-build builds it).
 # usage: tools/small_stack.sh
@@ -27,7 +27,7 @@ same() {
 shown='show "x"
 show "a"
 show "v"'
-same "look-ups over 256 levels in 64 KB" "$(replies 256 64 <<< "$shown")" "$(replies 2 8192 <<< "$shown")"
+same "look-ups over 256 levels in 80 KB" "$(replies 256 80 <<< "$shown")" "$(replies 2 8192 <<< "$shown")"
 
 put='add "va" 0 0
 add "vb" 0 0
